@@ -1,0 +1,110 @@
+-- The law of tables, for any chain of refusals: a number is given exactly when its row says so and no row before it does.
+use mathlib.Core.Path.{_≡_, refl, sym, _∙_}
+use mathlib.Core.Logic.{_↔_, _⊎_, inl, inr, ⊎-elim}
+use mathlib.Core.List.{List, [], _∷_, List·Memᴰ, List·Memᴰ·head, List·Memᴰ·tail, List·Memᴰ·not-nil}
+use mathlib.Core.Bool.{Bool, true, false, _&&_, _||_, true≢false, false≢true}
+use Prim.Native.Nat.{ℕ, _<_, _≤_}
+use native.Mathlib.Omega.{arith}
+use lib.Dec.{ltb, eqb}
+use borrow.Author.Tests.{ltb-true, eqb-true, eqb-false, ne-eqb}
+use Rattle.rules.specs.Choose.{if_then_else_}
+use Rattle.rules.specs.Table.{Row, _when_, first, answer, numbered, rising, has, Given, orElse, through}
+
+pub and-both : (a b : Bool) → a && b ≡ true → (a ≡ true) × (b ≡ true)
+and-both true b e = (refl, e)
+and-both false b e = absurd (false≢true e)
+
+pub or-neither : (a b : Bool) → a || b ≡ false → (a ≡ false) × (b ≡ false)
+or-neither true b e = absurd (true≢false e)
+or-neither false b e = (refl, e)
+
+-- a number that no row has is not given
+foreign : (k : ℕ) (rows : List Row) → 0 < k → has k rows ≡ false → first rows ≡ k → ⊥
+unfolding first
+foreign k [] h n e = omega arith
+foreign k (j when true ∷ rows) h n e = eqb-false j k (or-neither (eqb j k) _ n .0) e
+foreign k (j when false ∷ rows) h n e = foreign k rows h (or-neither (eqb j k) _ n .1) e
+
+pub exactly : (rows : List Row) → numbered rows ≡ true → (k : ℕ) → (first rows ≡ k) ↔ Given k rows
+unfolding first numbered
+exactly [] u k = (λ e. sym e, λ e. sym e)
+exactly (j when b ∷ rows) u k =
+    go b (eqb j k) (has k rows) refl refl (ltb-true 0 j (and-both (ltb 0 j) _ u .0)) (exactly rows (and-both (ltb 0 j) _ u .1) k)
+  where
+    go :
+        (b same again : Bool) → eqb j k ≡ same → has k rows ≡ again → 0 < j
+        → ((first rows ≡ k) ↔ Given k rows)
+        → ((if b then j else first rows) ≡ k)
+        ↔ (if same then (if again then (b ≡ true) ⊎ Given k rows else (b ≡ true)) else ((b ≡ false) × Given k rows))
+    go true true true q h p later = (λ _. inl refl, λ _. eqb-true j k q)
+    go true true false q h p later = (λ _. refl, λ _. eqb-true j k q)
+    go true false again q h p later = (λ e. absurd (eqb-false j k q e), λ g. absurd (true≢false (g .0)))
+    go false true true q h p later = (λ e. inr (later .0 e), ⊎-elim (λ g. absurd (false≢true g)) (later .1))
+    go false true false q h p later =
+        let s = eqb-true j k q in
+        (λ e. absurd (foreign k rows (omega arith) h e), λ g. absurd (false≢true g))
+    go false false again q h p later = (λ e. (refl, later .0 e), λ g. later .1 (g .1))
+
+-- where the numbers rise, the one that is given is the lowest of those whose tests are true
+above : (low : ℕ) (rows : List Row) → rising low rows ≡ true → (j : ℕ) (b : Bool) → List·Memᴰ (j when b) rows → low < j
+unfolding rising
+above low [] r j b m = absurd (List·Memᴰ·not-nil m)
+above low (k when c ∷ rows) r j b (List·Memᴰ·head e) =
+    let q : j ≡ k = cc in
+    omega (arith, ltb-true low k (and-both (ltb low k) _ r .0))
+above low (k when c ∷ rows) r j b (List·Memᴰ·tail m) =
+    let p = and-both (ltb low k) (rising k rows) r in
+    omega (arith, ltb-true low k (p .0), above k rows (p .1) j b m)
+
+pub lowest : (low : ℕ) (rows : List Row) → rising low rows ≡ true → (j : ℕ) → List·Memᴰ (j when true) rows → first rows ≤ j
+unfolding first rising
+lowest low [] r j m = absurd (List·Memᴰ·not-nil m)
+lowest low (k when true ∷ rows) r j (List·Memᴰ·head e) = let q : j ≡ k = cc in omega arith
+lowest low (k when true ∷ rows) r j (List·Memᴰ·tail m) = omega (arith, above k rows (and-both (ltb low k) (rising k rows) r .1) j true m)
+lowest low (k when false ∷ rows) r j (List·Memᴰ·head e) = let q : true ≡ false = cc in absurd (true≢false q)
+lowest low (k when false ∷ rows) r j (List·Memᴰ·tail m) = lowest k rows (and-both (ltb low k) (rising k rows) r .1) j m
+
+-- an answer's number is its table's, where a refusal has its own number and the work none
+pub own-number :
+    {A : Type 0} (numberOf : A → ℕ) (number : ℕ) (refuse : ℕ → A) (work : A)
+    → ((k : ℕ) → numberOf (refuse k) ≡ k)
+    → numberOf work ≡ 0
+    → numberOf (answer number refuse work) ≡ number
+own-number {A} numberOf number refuse work own none = go (eqb number 0) refl
+  where
+    go : (b : Bool) → eqb number 0 ≡ b → numberOf (if b then work else refuse number) ≡ number
+    go true q = none ∙ sym (eqb-true number 0 q)
+    go false q = own number
+
+-- so a call answers with number k exactly when its table says so
+pub exactly-when :
+    {A : Type 0} (numberOf : A → ℕ) (rows : List Row) (refuse : ℕ → A) (work : A)
+    → numbered rows ≡ true
+    → ((k : ℕ) → numberOf (refuse k) ≡ k)
+    → numberOf work ≡ 0
+    → (k : ℕ) → (numberOf (answer (first rows) refuse work) ≡ k) ↔ Given k rows
+exactly-when numberOf rows refuse work u own none k = rw (own-number numberOf (first rows) refuse work own none) (exactly rows u k)
+
+-- code that goes through the rows, line by line, finds the table's number
+kept : (r : ℕ) (rows : List Row) → eqb r 0 ≡ false → through r rows ≡ r
+unfolding through
+kept r [] e = refl
+kept r (k when b ∷ rows) e = rw e (kept r rows e)
+
+in-order : (rows : List Row) → numbered rows ≡ true → through 0 rows ≡ first rows
+unfolding first through numbered
+in-order [] u = refl
+in-order (k when true ∷ rows) u =
+    let h = ltb-true 0 k (and-both (ltb 0 k) _ u .0) in
+    kept k rows (ne-eqb k 0 (λ e. omega arith))
+in-order (k when false ∷ rows) u = in-order rows (and-both (ltb 0 k) _ u .1)
+
+pub by-rows : (rows : List Row) {r : ℕ} → numbered rows ≡ true → r ≡ through 0 rows → r ≡ first rows
+by-rows rows u e = e ∙ in-order rows u
+
+-- a row whose test is false changes nothing
+pub stays : (r k : ℕ) → orElse r k false ≡ r
+stays r k = go (eqb r 0) refl where
+  go : (b : Bool) → eqb r 0 ≡ b → (if b then 0 else r) ≡ r
+  go true q = sym (eqb-true r 0 q)
+  go false q = refl

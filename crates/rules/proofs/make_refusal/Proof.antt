@@ -1,0 +1,13 @@
+-- `rules::make_refusal` meets its contract: its lines are the table's rows.
+use mathlib.Core.Path.{refl}
+use Rattle.rules.specs.Table.{through, numbered}
+use Rattle.rules.proofs.Tables.{by-rows}
+use Rattle.rules.proofs.make_refusal.Statement.{statement}
+use Rattle.rules.proofs.make_refusal.Tie as tie
+
+returns : tie.Need-returns
+unfolding numbered through
+returns c = by-rows _ refl (cc)
+
+pub make-refusal-spec : {M : Type 1} → statement M
+make-refusal-spec = tie.close (tie.spec (λ _ _. tt) (λ _ _. tt) (λ _ _. tt) (λ _ _. tt) (λ _ _. tt) returns)

@@ -1,0 +1,34 @@
+-- A run's answer and what it leaves in a lent slice, for every voter.
+use Prim.Native.Nat.{ℕ}
+use mathlib.Core.List.{List}
+use mathlib.Core.Bool.{Bool}
+use lib.Dec.{eqb}
+use Rattle.rules.specs.Choose.{if_then_else_}
+use Rattle.rules.specs.Table.{first, answer}
+use Rattle.rules.specs.Refusals.{runRows}
+use Rattle.rules.specs.Samples.{firstWhere, somewhere}
+use Rattle.rules.specs.declared.RunAnswer.{RunAnswer}
+use Rattle.rules.specs.declared.RunAnswer.the-variants.{Done, Refused}
+
+-- each case's refusal number (0 is none) and sample number
+abbrev pub runNumber : RunAnswer → ℕ
+runNumber Done = 0
+runNumber (Refused number sample) = number
+
+abbrev pub runSample : RunAnswer → ℕ
+runSample Done = 0
+runSample (Refused number sample) = sample
+
+-- refused: the sample number is 0 except with 6, and then the smallest
+abbrev pub notRun : ℕ → ℕ → RunAnswer
+notRun smallest number = Refused number (if eqb number 6 then smallest else 0)
+
+-- a run over samples of any kind, of which `out n` says that a word is outside the width
+unfoldable pub runAnswer : {X : Type 0} → (ℕ → X → Bool) → Bool → ℕ → ℕ → Bool → Bool → List X → RunAnswer
+runAnswer out counts n word long unequal samples =
+    answer (first (runRows counts n word long unequal (somewhere (out n) samples))) (notRun (firstWhere (out n) samples)) Done
+
+-- a lent slice afterwards: as it came if the run is refused, and what the run writes if not
+abbrev pub after : RunAnswer → List ℕ → List ℕ → List ℕ
+after Done lent written = written
+after (Refused number sample) lent written = lent

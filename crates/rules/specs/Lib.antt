@@ -1,0 +1,8 @@
+pub mod Answers
+pub mod Bits
+pub mod Choose
+pub mod Limits
+pub mod Promise
+pub mod Refusals
+pub mod Samples
+pub mod Table

@@ -1,0 +1,37 @@
+-- Samples of two columns, and of four, taken together: as many as a column has, and each made of the columns' own.
+use mathlib.Core.Path.{_≡_, refl, ap, ap₂, _∙_}
+use mathlib.Core.List.{List, [], _∷_, zip, zipWith}
+use Prim.Native.Nat.{ℕ, zero, suc, _<_}
+use native.Mathlib.Omega.{arith}
+use lib.ListN.{length, getD}
+
+pub zip-length : {X Y : Type 0} (us : List X) (vs : List Y) → length us ≡ length vs → length (zip us vs) ≡ length us
+unfolding zip zipWith
+zip-length [] [] e = refl
+zip-length [] (v ∷ vs) e = refl
+zip-length (u ∷ us) [] e = absurd (let z : suc (length us) ≡ 0 = e in omega arith)
+zip-length (u ∷ us) (v ∷ vs) e = ap suc (zip-length us vs (let z : suc (length us) ≡ suc (length vs) = e in omega arith))
+
+pub zip-at :
+    {X Y : Type 0} (us : List X) (vs : List Y) (i : ℕ) (d : X) (e : Y) → i < length us → length us ≡ length vs
+    → getD (zip us vs) i (d, e) ≡ (getD us i d, getD vs i e)
+unfolding zip zipWith
+zip-at [] vs i d e h q = absurd (let z : i < 0 = h in omega arith)
+zip-at (u ∷ us) [] i d e h q = absurd (let z : suc (length us) ≡ 0 = q in omega arith)
+zip-at (u ∷ us) (v ∷ vs) zero d e h q = refl
+zip-at (u ∷ us) (v ∷ vs) (suc i) d e h q =
+    zip-at us vs i d e (let z : suc i < suc (length us) = h in omega arith) (let z : suc (length us) ≡ suc (length vs) = q in omega arith)
+
+module _ (a b c d : List ℕ) (ab : length a ≡ length b) (ac : length a ≡ length c) (ad : length a ≡ length d) where
+  pairs-alike : length (zip a b) ≡ length (zip c d)
+  pairs-alike = omega (arith, zip-length a b ab, zip-length c d (omega arith))
+
+  pub four-length : length (zip (zip a b) (zip c d)) ≡ length a
+  four-length = zip-length (zip a b) (zip c d) pairs-alike ∙ zip-length a b ab
+
+  pub four-at :
+      (i : ℕ) → i < length a
+      → getD (zip (zip a b) (zip c d)) i ((0, 0), (0, 0)) ≡ ((getD a i 0, getD b i 0), (getD c i 0, getD d i 0))
+  four-at i h =
+      zip-at (zip a b) (zip c d) i (0, 0) (0, 0) (omega (arith, zip-length a b ab)) pairs-alike
+      ∙ ap₂ (λ (p q : ℕ × ℕ). (p, q)) (zip-at a b i 0 0 h ab) (zip-at c d i 0 0 (omega arith) (omega arith))
