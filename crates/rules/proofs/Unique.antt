@@ -1,24 +1,19 @@
 -- Each public call's own contract, as the source states it, determines its answer.
 use Rattle.rules.specs.Promise.{Determines}
-use Rattle.rules.proofs.RunAnswer.number.Reads as number
-use Rattle.rules.proofs.RunAnswer.sample.Reads as sample
 use Rattle.rules.proofs.bad_count.Reads as bad-count
+use Rattle.rules.proofs.bad_width.Reads as bad-width
 use Rattle.rules.proofs.outside.Reads as outside
 use Rattle.rules.proofs.default_word.Reads as default-word
 use Rattle.rules.proofs.last.Reads as last
+use Rattle.rules.proofs.or_else.Reads as or-else
 use Rattle.rules.proofs.make_refusal.Reads as make-refusal
 use Rattle.rules.proofs.step_refusal.Reads as step-refusal
-use Rattle.rules.proofs.judge_run.Reads as judge-run
-use contract.Lifetimes.{Lfts}
-
-pub number-unique : Determines (number.Learnt tt) (λ z e. z)
-number-unique a z z′ e e′ p q = cc
-
-pub sample-unique : Determines (sample.Learnt tt) (λ z e. z)
-sample-unique a z z′ e e′ p q = cc
 
 pub bad-count-unique : Determines (bad-count.Learnt tt) (λ z e. z)
 bad-count-unique a z z′ e e′ p q = cc
+
+pub bad-width-unique : Determines (bad-width.Learnt tt) (λ z e. z)
+bad-width-unique a z z′ e e′ p q = cc
 
 pub outside-unique : Determines (outside.Learnt tt) (λ z e. z)
 outside-unique a z z′ e e′ p q = cc
@@ -29,11 +24,11 @@ default-word-unique a z z′ e e′ p q = cc
 pub last-unique : Determines (last.Learnt tt) (λ z e. z)
 last-unique a z z′ e e′ p q = cc
 
+pub or-else-unique : Determines (or-else.Learnt tt) (λ z e. z)
+or-else-unique a z z′ e e′ p q = cc
+
 pub make-refusal-unique : Determines (make-refusal.Learnt tt) (λ z e. z)
 make-refusal-unique a z z′ e e′ p q = cc
 
 pub step-refusal-unique : Determines (step-refusal.Learnt tt) (λ z e. z)
 step-refusal-unique a z z′ e e′ p q = cc
-
-pub judge-run-unique : (κs : Lfts 1) → Determines (judge-run.Learnt κs) (λ z e. z)
-judge-run-unique κs a z z′ e e′ p q = cc

@@ -1,8 +1,6 @@
-pub mod Answers
 pub mod Bits
 pub mod Choose
 pub mod Limits
 pub mod Promise
 pub mod Refusals
-pub mod Samples
 pub mod Table

@@ -3,12 +3,12 @@ use Prim.Native.Nat.{ℕ}
 use mathlib.Core.List.{List}
 use mathlib.Core.Bool.{Bool}
 use lib.Dec.{eqb}
 use Rattle.rules.specs.Choose.{if_then_else_}
 use Rattle.rules.specs.Table.{first, answer}
 use Rattle.rules.specs.Refusals.{runRows}
-use Rattle.rules.specs.Samples.{firstWhere, somewhere}
-use Rattle.rules.specs.declared.RunAnswer.{RunAnswer}
-use Rattle.rules.specs.declared.RunAnswer.the-variants.{Done, Refused}
+use Rattle.trace.specs.Samples.{firstWhere, somewhere}
+use Rattle.trace.specs.declared.RunAnswer.{RunAnswer}
+use Rattle.trace.specs.declared.RunAnswer.the-variants.{Done, Refused}
 
 -- each case's refusal number (0 is none) and sample number
 abbrev pub runNumber : RunAnswer → ℕ

@@ -1,23 +1,23 @@
--- `rules::judge_run` meets its contract: the three ways to answer are those of `Runs`.
+-- `trace::judge` meets its contract: the three ways to answer are those of `Runs`.
 use mathlib.Core.Path.{_≡_, refl, sym, ap, _∙_}
 use mathlib.Core.Bool.{true, false}
 use native.Mathlib.Omega.{arith}
 use borrow.Author.Tests.{ltb-true, ltb-false}
 use lib.ListN.{length}
 use Rattle.rules.specs.Limits.{tooLong, outside}
 use Rattle.rules.specs.Table.{first, numbered}
 use Rattle.rules.specs.Refusals.{runRows}
-use Rattle.rules.specs.Samples.{somewhere, firstWhere}
-use Rattle.rules.specs.declared.RunAnswer.the-variants.{Refused}
-use Rattle.rules.proofs.Runs.{early, refused-early, refused-late, done}
+use Rattle.trace.specs.Samples.{somewhere, firstWhere}
+use Rattle.trace.specs.declared.RunAnswer.the-variants.{Refused}
+use Rattle.trace.proofs.Runs.{early, refused-early, refused-late, done}
 use Rattle.rules.proofs.Tables.{exactly}
-use Rattle.rules.proofs.judge_run.Statement.{statement}
-use Rattle.rules.proofs.judge_run.Tie as tie
-use Rattle.rules.proofs.judge_run.Reads as reads
-use Rattle.rules.proofs.judge_run.Lts as lts
+use Rattle.trace.proofs.judge.Statement.{statement}
+use Rattle.trace.proofs.judge.Tie as tie
+use Rattle.trace.proofs.judge.Reads as reads
+use Rattle.trace.proofs.judge.Lts as lts
 
 -- the refusal is the table's, as far as it is known
-known : (c : tie.After-run-refusal) → let a = c .before .before .before .args in
+known : (c : tie.After-run-refusal) → let a = c .before .before .args in
     c .run-refusal .result ≡ early (a .counts) (a .n) (a .word) (tooLong (length (a .samples .now))) (a .unequal)
 known c = cc
 
@@ -25,15 +25,15 @@ returns : tie.Need-returns
 returns c = refused-early _ _ _ _ _ _ _ (known (c .before)) (c .if1 .taken)
 
 -- nothing is refused where the samples are read, so there are few
-none : (c : tie.Else1) → let a = c .before .before .before .before .args in
+none : (c : tie.Else1) → let a = c .before .before .before .args in
     early (a .counts) (a .n) (a .word) (tooLong (length (a .samples .now))) (a .unequal) ≡ 0
 none c = sym (known (c .before)) ∙ c .if1 .left
 
-cast-at : tie.Need-cast-t11
+cast-sample : tie.Need-cast-sample
 unfolding numbered
-cast-at c =
+cast-sample c =
     let e = c .before .before .before in
-    let a = e .before .before .before .before .args in
+    let a = e .before .before .before .args in
     let few = exactly (runRows (a .counts) (a .n) (a .word) (tooLong (length (a .samples .now))) (a .unequal) false) refl 0 .0 (none e) .1 .1 .0 in
     let below = sym (c .before .before .some-outside .ensures) ∙ c .before .if2 .taken in
     omega (arith, c .first-outside .ensures, ltb-false 2048 (length (a .samples .now)) few, ltb-true (firstWhere (outside (a .n)) (a .samples .now)) (length (a .samples .now)) below)
@@ -44,5 +44,5 @@ returns-2 c = ap (Refused 6) (c .first-outside .ensures) ∙ refused-late _ _ _ 
 returns-3 : tie.Need-returns-3
 returns-3 c = done _ _ _ _ _ _ _ (none (c .before .before)) (sym (c .before .some-outside .ensures) ∙ c .if2 .left)
 
-pub judge-run-spec : {M : Type 1} → statement M
-judge-run-spec = tie.close (tie.spec (λ _ _. tt) (λ _ _. tt) returns (λ _ _. tt) (λ _ _. tt) cast-at returns-2 returns-3)
+pub judge-spec : {M : Type 1} → statement M
+judge-spec = tie.close (tie.spec (λ _ _. tt) returns (λ _ _. tt) (λ _ _. tt) cast-sample returns-2 returns-3)

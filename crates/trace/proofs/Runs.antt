@@ -7,16 +7,16 @@ use Prim.Native.Nat.{ℕ}
 use native.Mathlib.Omega.{arith}
 use lib.Dec.{eqb}
 use borrow.Author.Tests.{eqb-true, ne-eqb}
 use Rattle.rules.specs.Choose.{if_then_else_}
 use Rattle.rules.specs.Limits.{badWidth, outside}
 use Rattle.rules.specs.Table.{Row, _when_, first, answer, numbered, Given, orElse}
 use Rattle.rules.specs.Refusals.{runRows}
-use Rattle.rules.specs.Samples.{firstWhere, somewhere, Smallest}
-use Rattle.rules.specs.Answers.{runNumber, runSample, notRun, runAnswer}
-use Rattle.rules.specs.declared.RunAnswer.{RunAnswer}
-use Rattle.rules.specs.declared.RunAnswer.the-variants.{Done, Refused}
-use Rattle.rules.proofs.Samples.{smallest}
+use Rattle.trace.specs.Samples.{firstWhere, somewhere, Smallest}
+use Rattle.trace.specs.Answers.{runNumber, runSample, notRun, runAnswer}
+use Rattle.trace.specs.declared.RunAnswer.{RunAnswer}
+use Rattle.trace.specs.declared.RunAnswer.the-variants.{Done, Refused}
+use Rattle.trace.proofs.Samples.{smallest}
 use Rattle.rules.proofs.Tables.{exactly, own-number}
 
 shown : (k s : ℕ) → runSample (answer k (notRun s) Done) ≡ (if eqb k 6 then s else 0)
 shown k s = go (eqb k 0) refl where

@@ -10,8 +10,8 @@ use lib.ListN.{length, getD, drop, drop-of-length-le}
 use lib.Seq.{drop-cons}
 use lib.Dec.{ltb, leb·zero, leb·suc-suc}
 use borrow.Author.Tests.{lt-ltb, le-ltb, ltb-true, ltb-false}
 use Rattle.rules.specs.Choose.{if_then_else_}
-use Rattle.rules.specs.Samples.{firstWhere, somewhere, Smallest}
+use Rattle.trace.specs.Samples.{firstWhere, somewhere, Smallest}
 
 module _ {X : Type 0} (test : X → Bool) where
   -- the next sample is marked, or it is not

@@ -1,16 +1,16 @@
--- `rules::first_outside` meets its contract. The invariant: the samples passed are inside, so the search goes on from i.
+-- `trace::first_outside` meets its contract. The invariant: the samples passed are inside, so the search goes on from i.
 use mathlib.Core.Path.{_≡_, sym, _∙_}
 use Prim.Native.Nat.{_+_, _-_, _≤_}
 use native.Mathlib.Omega.{arith}
 use borrow.Author.Needs.{needs}
 use lib.ListN.{length, drop}
 use Rattle.rules.specs.Limits.{outside}
-use Rattle.rules.specs.Samples.{firstWhere}
-use Rattle.rules.proofs.Samples.{found, missed, no-more}
-use Rattle.rules.proofs.first_outside.Statement.{statement}
-use Rattle.rules.proofs.first_outside.Tie as tie
-use Rattle.rules.proofs.first_outside.Reads as reads
-use Rattle.rules.proofs.first_outside.Lts as lts
+use Rattle.trace.specs.Samples.{firstWhere}
+use Rattle.trace.proofs.Samples.{found, missed, no-more}
+use Rattle.trace.proofs.first_outside.Statement.{statement}
+use Rattle.trace.proofs.first_outside.Tie as tie
+use Rattle.trace.proofs.first_outside.Reads as reads
+use Rattle.trace.proofs.first_outside.Lts as lts
 
 abbrev Inv-loop : tie.InvT-loop
 Inv-loop n samples i₀ i = (i ≤ length samples) × (firstWhere (outside n) samples ≡ i + firstWhere (outside n) (drop i samples))

@@ -1,18 +1,18 @@
--- `rules::some_outside` meets its contract. The invariant: the OR so far is outside, or a sample to come is, exactly when some sample is.
+-- `trace::some_outside` meets its contract. The invariant: the OR so far is outside, or a sample to come is, exactly when some sample is.
 use mathlib.Core.Path.{_≡_, refl, sym, ap, _∙_}
 use mathlib.Core.Bool.{_||_, or-false, or-assoc}
 use Prim.Native.Nat.{_-_, _≤_}
 use native.Mathlib.Omega.{arith}
 use borrow.Author.Needs.{needs}
 use lib.ListN.{length, drop}
 use Rattle.rules.specs.Limits.{outside}
-use Rattle.rules.specs.Samples.{somewhere}
-use Rattle.rules.proofs.Samples.{somewhere-next, nowhere-more}
+use Rattle.trace.specs.Samples.{somewhere}
+use Rattle.trace.proofs.Samples.{somewhere-next, nowhere-more}
 use Rattle.rules.proofs.Width.{outside-or, zero-inside}
-use Rattle.rules.proofs.some_outside.Statement.{statement}
-use Rattle.rules.proofs.some_outside.Tie as tie
-use Rattle.rules.proofs.some_outside.Reads as reads
-use Rattle.rules.proofs.some_outside.Lts as lts
+use Rattle.trace.proofs.some_outside.Statement.{statement}
+use Rattle.trace.proofs.some_outside.Tie as tie
+use Rattle.trace.proofs.some_outside.Reads as reads
+use Rattle.trace.proofs.some_outside.Lts as lts
 
 abbrev Inv-loop : tie.InvT-loop
 Inv-loop n samples union₀ i₀ union i = (i ≤ length samples) × (outside n union || somewhere (outside n) (drop i samples) ≡ somewhere (outside n) samples)
