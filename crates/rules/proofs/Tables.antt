@@ -64,6 +64,14 @@ lowest low (k when true ∷ rows) r j (List·Memᴰ·tail m) = omega (arith, abo
 lowest low (k when false ∷ rows) r j (List·Memᴰ·head e) = let q : true ≡ false = cc in absurd (true≢false q)
 lowest low (k when false ∷ rows) r j (List·Memᴰ·tail m) = lowest k rows (and-both (ltb low k) (rising k rows) r .1) j m
 
+-- the two ways to answer, as code finds them: k is the table's number
+module _ {A : Type 0} (refuse : ℕ → A) (work : A) {number k : ℕ} (found : k ≡ number) where
+  pub refuses : (k ≡ 0 → ⊥) → refuse k ≡ answer number refuse work
+  refuses h = rw (← found, ne-eqb k 0 h)
+
+  pub works : k ≡ 0 → work ≡ answer number refuse work
+  works e = rw (← found, e)
+
 -- an answer's number is its table's, where a refusal has its own number and the work none
 pub own-number :
     {A : Type 0} (numberOf : A → ℕ) (number : ℕ) (refuse : ℕ → A) (work : A)

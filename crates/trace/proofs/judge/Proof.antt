@@ -19,7 +19,7 @@ use Rattle.trace.proofs.judge.Lts as lts
 -- the refusal is the table's, as far as it is known
 known : (c : tie.After-run-refusal) → let a = c .before .before .args in
     c .run-refusal .result ≡ early (a .counts) (a .n) (a .word) (tooLong (length (a .samples .now))) (a .unequal)
-known c = cc
+known c = c .run-refusal .ensures
 
 returns : tie.Need-returns
 returns c = refused-early _ _ _ _ _ _ _ (known (c .before)) (c .if1 .taken)

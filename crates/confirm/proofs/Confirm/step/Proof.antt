@@ -1,0 +1,22 @@
+-- `Confirm::step` meets its contract: with a refusal the state as it came, without one the clauses.
+use mathlib.Core.Path.{_≡_, _∙_}
+use Rattle.rules.specs.Table.{first}
+use Rattle.rules.proofs.Tables.{refuses, works}
+use Rattle.confirm.specs.Confirm.{rowsOf, notTaken, stepOf}
+use Rattle.confirm.proofs.Confirm.step.Statement.{statement}
+use Rattle.confirm.proofs.Confirm.step.Tie as tie
+
+found : (c : tie.After-step-refusal) → let a = c .before .before .before .before .args in
+    c .step-refusal .result ≡ first (rowsOf (a .self) (a .input))
+found c = cc
+
+returns : tie.Need-returns
+unfolding stepOf
+returns c = refuses (notTaken _) _ (found (c .before)) (c .if1 .taken)
+
+returns-2 : tie.Need-returns-2
+unfolding stepOf
+returns-2 c = c .clauses .ensures ∙ works (notTaken _) _ (found (c .before .before)) (c .before .if1 .left)
+
+pub step-spec : {M : Type 1} → statement M
+step-spec = tie.close (tie.spec (λ _ _. tt) (λ _ _. tt) (λ _ _. tt) (λ _ _. tt) returns (λ _ _. tt) returns-2)

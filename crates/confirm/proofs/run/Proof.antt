@@ -1,0 +1,66 @@
+-- `confirm::run` meets its contract: a refused run leaves every slice, and where none is refused the lengths are alike.
+use mathlib.Core.Path.{_≡_, refl, sym, ap, _∙_}
+use mathlib.Core.Bool.{false, _||_}
+use Prim.Native.Nat.{ℕ}
+use borrow.Author.Needs.{needs}
+use Rattle.rules.specs.Limits.{differ, outside}
+use Rattle.rules.proofs.Limits.{same}
+use Rattle.rules.proofs.Tables.{or-neither}
+use Rattle.trace.specs.Answers.{runNumber}
+use Rattle.trace.proofs.Runs.{run-exactly}
+use Rattle.confirm.specs.Run.{answerOf, unequal}
+use Rattle.confirm.proofs.run.Statement.{statement}
+use Rattle.confirm.proofs.run.Tie as tie
+use Rattle.confirm.proofs.run.Reads as reads
+use Rattle.confirm.proofs.run.Lts as lts
+
+answered : (c : tie.After-judge) → let a = c .before .before .before .before .before .before .args in
+    c .judge .result ≡ answerOf (a .n) (a .need) (a .word) (a .samples .now) (a .words .now) (a .marks .now) (a .counts .now)
+answered c = cc
+
+returns : tie.Need-returns
+returns c =
+    let refused = c .enum-told2 .given .1 in
+    record { answered = answered (c .before .before); words-after = rw refused; marks-after = rw refused; counts-after = rw refused }
+
+-- where the run is not refused, every slice is as long as the trace
+alike : (c : tie.After-enum-told) → let a = c .before .before .before .before .before .before .before .before .args in
+    unequal (a .samples .now) (a .words .now) (a .marks .now) (a .counts .now) ≡ false
+alike c = run-exactly _ _ _ _ _ outside _ 0 .0 (ap runNumber (sym (answered (c .before .before)) ∙ c .enum-told .given .1)) .1 .1 .1 .0
+
+three : (a b c d : ℕ) → differ a b || differ a c || differ a d ≡ false → (a ≡ b) × ((a ≡ c) × (a ≡ d))
+three a b c d e =
+    let p = or-neither (differ a b || differ a c) (differ a d) e in
+    let q = or-neither (differ a b) (differ a c) (p .0) in
+    (same a b (q .0), (same a c (q .1), same a d (p .1)))
+
+write-steps-requires : tie.Need-write-steps-requires
+write-steps-requires c κs = three _ _ _ _ (alike (c .before .before .before .before))
+
+returns-2 : tie.Need-returns-2
+returns-2 c =
+    let wrote = c .before .before .before .before .before .before .write-steps in
+    let f = c .before .before .before .before .before .before .before .before .before .before in
+    let ran = f .before .enum-told .given .1 in
+    record {
+      answered = answered (f .before .before .before);
+      words-after = rw (ran, ← f .fresh .ensures) (wrote .ensures .0);
+      marks-after = rw (ran, ← f .fresh .ensures) (wrote .ensures .1 .0);
+      counts-after = rw (ran, ← f .fresh .ensures) (wrote .ensures .1 .1);
+    }
+
+pub run-spec : {M : Type 1} → statement M
+run-spec =
+    tie.close
+    (tie.spec
+    (λ _ _. tt)
+    (λ _ _. tt)
+    (λ c. search needs)
+    (λ c. search needs)
+    returns
+    (λ _ _. tt)
+    write-steps-requires
+    (λ c. search needs)
+    (λ c. search needs)
+    (λ c. search needs)
+    returns-2)

@@ -1,0 +1,47 @@
+-- A run of confirmation over a lent trace: its answer, and what it writes.
+use Prim.Native.Nat.{ℕ}
+use mathlib.Core.Path.{_≡_}
+use mathlib.Core.List.{List, map}
+use mathlib.Core.Bool.{Bool, _||_}
+use lib.ListN.{length}
+use Rattle.rules.specs.Limits.{badCount, tooLong, differ, outside}
+use Rattle.trace.specs.Trace.{trace}
+use Rattle.trace.specs.Answers.{runAnswer, after}
+use Rattle.trace.specs.declared.RunAnswer.{RunAnswer}
+use Rattle.confirm.specs.declared.Confirm.{Confirm}
+use Rattle.confirm.specs.declared.ConfirmStep.{ConfirmStep}
+use Rattle.confirm.specs.Answers.{wordOf, markOf}
+use Rattle.confirm.specs.Confirm.{fresh, clauses, stepOf}
+
+-- one step for each sample by the clauses, and the same by the public step
+abbrev pub steps : Confirm → List ℕ → List ConfirmStep
+steps = trace clauses (λ (t : ConfirmStep). t .state)
+
+abbrev pub publicSteps : Confirm → List ℕ → List ConfirmStep
+publicSteps = trace stepOf (λ (t : ConfirmStep). t .state)
+
+-- what a run writes of each: the output word, the mark byte and the count after the step
+abbrev pub wordsOf : List ConfirmStep → List ℕ
+wordsOf = map (λ (t : ConfirmStep). wordOf (t .answer))
+
+abbrev pub marksOf : List ConfirmStep → List ℕ
+marksOf = map (λ (t : ConfirmStep). markOf (t .answer))
+
+abbrev pub countsOf : List ConfirmStep → List ℕ
+countsOf = map (λ (t : ConfirmStep). t .state .count)
+
+-- 4: a lent slice has another length than the trace
+abbrev pub unequal : List ℕ → List ℕ → List ℕ → List ℕ → Bool
+unequal samples words marks counts =
+    differ (length samples) (length words) || differ (length samples) (length marks) || differ (length samples) (length counts)
+
+abbrev pub answerOf : ℕ → ℕ → ℕ → List ℕ → List ℕ → List ℕ → List ℕ → RunAnswer
+answerOf n need word samples words marks counts =
+    runAnswer outside (badCount need) n word (tooLong (length samples)) (unequal samples words marks counts) samples
+
+-- what a run promises of its answer and of each lent slice
+pub record Ran (n need word : ℕ) (samples words marks counts : List ℕ) (r : RunAnswer) (words′ marks′ counts′ : List ℕ) : Type 0 where
+  pub answered : r ≡ answerOf n need word samples words marks counts
+  pub words-after : words′ ≡ after r words (wordsOf (steps (fresh n need word) samples))
+  pub marks-after : marks′ ≡ after r marks (marksOf (steps (fresh n need word) samples))
+  pub counts-after : counts′ ≡ after r counts (countsOf (steps (fresh n need word) samples))
