@@ -11,7 +11,7 @@ use Rattle.trace.specs.declared.RunAnswer.{RunAnswer}
 use Rattle.confirm.specs.declared.Confirm.{Confirm}
 use Rattle.confirm.specs.declared.ConfirmStep.{ConfirmStep}
 use Rattle.confirm.specs.Answers.{wordOf, markOf}
-use Rattle.confirm.specs.Confirm.{fresh, clauses, stepOf}
+use Rattle.confirm.specs.Confirm.{fresh, clauses, madeOf, stepOf}
 
 -- one step for each sample by the clauses, and the same by the public step
 abbrev pub steps : Confirm → List ℕ → List ConfirmStep
@@ -45,3 +45,11 @@ pub record Ran (n need word : ℕ) (samples words marks counts : List ℕ) (r : 
   pub words-after : words′ ≡ after r words (wordsOf (steps (fresh n need word) samples))
   pub marks-after : marks′ ≡ after r marks (marksOf (steps (fresh n need word) samples))
   pub counts-after : counts′ ≡ after r counts (countsOf (steps (fresh n need word) samples))
+
+-- "a run equals its steps": the public constructor takes n, N and the word, and what the run wrote is what the public steps
+-- show, one after the other, from the state that it made
+pub record Stepwise (n need word : ℕ) (samples words′ marks′ counts′ : List ℕ) : Type 0 where
+  pub taken : madeOf n need word .refusal ≡ 0
+  pub words-same : words′ ≡ wordsOf (publicSteps (madeOf n need word .state) samples)
+  pub marks-same : marks′ ≡ marksOf (publicSteps (madeOf n need word .state) samples)
+  pub counts-same : counts′ ≡ countsOf (publicSteps (madeOf n need word .state) samples)

@@ -67,6 +67,10 @@ module _ {X : Type 0} (test : X → Bool) where
   pub smallest : (xs : List X) → somewhere test xs ≡ true → Smallest test xs (firstWhere test xs)
   smallest xs e = record { there = ltb-true _ _ e; marked = λ d. marked xs d e; none-before = none-before xs }
 
+  -- and where no sample is marked, none is
+  pub nowhere : (xs : List X) (d : X) → somewhere test xs ≡ false → (i : ℕ) → i < length xs → test (getD xs i d) ≡ false
+  nowhere xs d e i h = none-before xs d i (omega (arith, ltb-false (firstWhere test xs) (length xs) e))
+
 -- samples of two columns: the first that either test marks is the smaller of the two numbers
 pub either :
     {X Y : Type 0} (p : X → Bool) (q : Y → Bool) (xs : List X) (ys : List Y) → length xs ≡ length ys

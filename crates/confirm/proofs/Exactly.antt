@@ -1,0 +1,52 @@
+-- Each number of each call is given exactly when its table says so; `Readings` of rules reads the tables out, number by number.
+use mathlib.Core.Path.{_≡_, refl}
+use mathlib.Core.Logic.{_↔_}
+use mathlib.Core.List.{List}
+use mathlib.Core.Bool.{Bool, true, false, not}
+use Prim.Native.Nat.{ℕ, _+_, _-_}
+use lib.ListN.{length}
+use lib.Dec.{ltb, eqb}
+use Rattle.rules.specs.Choose.{if_then_else_}
+use Rattle.rules.specs.Limits.{badCount, tooLong, outside}
+use Rattle.rules.specs.Table.{Given, numbered}
+use Rattle.rules.specs.Refusals.{makeRows, runRows}
+use Rattle.rules.proofs.Tables.{exactly-when}
+use Rattle.trace.specs.Samples.{somewhere, Smallest}
+use Rattle.trace.specs.Answers.{runNumber, runSample}
+use Rattle.trace.proofs.Runs as runs
+use Rattle.confirm.specs.declared.Confirm.{Confirm}
+use Rattle.confirm.specs.declared.ConfirmMade.{ConfirmMade}
+use Rattle.confirm.specs.declared.ConfirmStep.{ConfirmStep}
+use Rattle.confirm.specs.Answers.{numberOf}
+use Rattle.confirm.specs.Confirm.{held, confirmed, clauses, made, notMade, madeOf, rowsOf, notTaken, stepOf}
+use Rattle.confirm.specs.Run.{unequal, answerOf}
+
+pub made-exactly : (n need word k : ℕ) → (madeOf n need word .refusal ≡ k) ↔ Given k (makeRows (badCount need) n word)
+unfolding madeOf numbered
+made-exactly n need word = exactly-when (λ (m : ConfirmMade). m .refusal) (makeRows (badCount need) n word) notMade (made n need word) refl (λ k. refl) refl
+
+-- the clauses refuse nothing
+pub none-refused : (s : Confirm) (x : ℕ) → numberOf (clauses s x .answer) ≡ 0
+unfolding clauses
+none-refused s x = go (not (eqb x (s .input))) (ltb (s .count) (s .need - 1)) where
+  go : (a b : Bool) → numberOf ((if a then held s x 0 else if b then held s x (s .count + 1) else confirmed s x) .answer) ≡ 0
+  go true b = refl
+  go false true = refl
+  go false false = refl
+
+pub step-exactly : (s : Confirm) (x k : ℕ) → (numberOf (stepOf s x .answer) ≡ k) ↔ Given k (rowsOf s x)
+unfolding stepOf numbered
+step-exactly s x = exactly-when (λ (t : ConfirmStep). numberOf (t .answer)) (rowsOf s x) (notTaken s) (clauses s x) refl (λ k. refl) (none-refused s x)
+
+module _ (n need word : ℕ) (samples words marks counts : List ℕ) where
+  pub run-exactly :
+      (k : ℕ) → (runNumber (answerOf n need word samples words marks counts) ≡ k)
+      ↔ Given k (runRows (badCount need) n word (tooLong (length samples)) (unequal samples words marks counts) (somewhere (outside n) samples))
+  run-exactly = runs.run-exactly _ _ _ _ _ outside samples
+
+  -- 6 comes with the smallest sample outside the width, and any other number with sample 0
+  pub run-six : runNumber (answerOf n need word samples words marks counts) ≡ 6 → Smallest (outside n) samples (runSample (answerOf n need word samples words marks counts))
+  run-six = runs.six-smallest _ _ _ _ _ outside samples
+
+  pub run-others : (runNumber (answerOf n need word samples words marks counts) ≡ 6 → ⊥) → runSample (answerOf n need word samples words marks counts) ≡ 0
+  run-others = runs.other-zero _ _ _ _ _ outside samples
