@@ -16,7 +16,7 @@ use Rattle.confirm.proofs.run.Lts as lts
 
 answered : (c : tie.After-judge) → let a = c .before .before .before .before .before .before .args in
     c .judge .result ≡ answerOf (a .n) (a .need) (a .word) (a .samples .now) (a .words .now) (a .marks .now) (a .counts .now)
-answered c = cc
+answered c = rw (c .judge .ensures, c .before .bad-count .ensures)
 
 returns : tie.Need-returns
 returns c =

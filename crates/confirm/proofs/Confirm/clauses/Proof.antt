@@ -10,7 +10,7 @@ use Rattle.confirm.proofs.Confirm.clauses.Tie as tie
 
 -- the code's flag is the definition's
 flag : (c : tie.After-last) → let s = c .before .args .self in ltb (s .count) (s .need - 1) ≡ ltb (s .count) (c .last .result)
-flag c = cc
+flag c = rw (c .last .ensures)
 
 returns : tie.Need-returns
 unfolding clauses

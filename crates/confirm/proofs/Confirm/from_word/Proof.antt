@@ -10,7 +10,7 @@ use Rattle.confirm.proofs.Confirm.from_word.Tie as tie
 
 found : (c : tie.After-make-refusal) → let a = c .before .before .args in
     c .make-refusal .result ≡ first (makeRows (badCount (a .need)) (a .n) (a .word))
-found c = cc
+found c = rw (c .make-refusal .ensures, c .before .bad-count .ensures)
 
 returns : tie.Need-returns
 unfolding madeOf

@@ -3,4 +3,4 @@ use Rattle.confirm.proofs.Confirm.new.Statement.{statement}
 use Rattle.confirm.proofs.Confirm.new.Tie as tie
 
 pub new-spec : {M : Type 1} → statement M
-new-spec = tie.close (tie.spec (λ _ _. tt) (λ _ _. tt) (λ c. cc))
+new-spec = tie.close (tie.spec (λ _ _. tt) (λ _ _. tt) (λ c. rw (c .from-word .ensures, c .before .default-word .ensures)))

@@ -8,7 +8,7 @@ use Rattle.confirm.proofs.Confirm.step.Tie as tie
 
 found : (c : tie.After-step-refusal) → let a = c .before .before .before .before .args in
     c .step-refusal .result ≡ first (rowsOf (a .self) (a .input))
-found c = cc
+found c = rw (c .step-refusal .ensures, c .before .bad-state .ensures, c .before .before .outside .ensures, c .before .before .before .bad-count .ensures)
 
 returns : tie.Need-returns
 unfolding stepOf
