@@ -1,18 +1,19 @@
 -- Each number of each call is given exactly when its table says so; `Readings` of rules reads the tables out, number by number.
 use mathlib.Core.Path.{_≡_, refl}
 use mathlib.Core.Logic.{_↔_}
-use mathlib.Core.List.{List}
+use mathlib.Core.List.{List, []}
 use mathlib.Core.Bool.{Bool, true, false, not}
 use Prim.Native.Nat.{ℕ, _+_, _-_}
 use lib.ListN.{length}
 use lib.Dec.{ltb, eqb}
 use Rattle.rules.specs.Choose.{if_then_else_}
-use Rattle.rules.specs.Limits.{badCount, tooLong, outside}
-use Rattle.rules.specs.Table.{Given, numbered}
+use Rattle.rules.specs.Limits.{badCount, badWidth, tooLong, outside}
+use Rattle.rules.specs.Table.{first, Given, numbered}
 use Rattle.rules.specs.Refusals.{makeRows, runRows}
 use Rattle.rules.proofs.Tables.{exactly-when}
-use Rattle.trace.specs.Samples.{somewhere, Smallest}
-use Rattle.trace.specs.Answers.{runNumber, runSample}
+use Rattle.trace.specs.Samples.{firstWhere, somewhere, Smallest}
+use Rattle.trace.specs.Answers.{runNumber, runSample, runAnswer}
+use Rattle.trace.specs.declared.RunAnswer.the-variants.{Done}
 use Rattle.trace.proofs.Runs as runs
 use Rattle.confirm.specs.declared.Confirm.{Confirm}
 use Rattle.confirm.specs.declared.ConfirmMade.{ConfirmMade}
@@ -50,3 +51,8 @@ module _ (n need word : ℕ) (samples words marks counts : List ℕ) where
 
   pub run-others : (runNumber (answerOf n need word samples words marks counts) ≡ 6 → ⊥) → runSample (answerOf n need word samples words marks counts) ≡ 0
   run-others = runs.other-zero _ _ _ _ _ outside samples
+
+-- an empty trace is accepted; as there is no place, nothing is written
+pub empty-taken : (n need word : ℕ) → badCount need ≡ false → badWidth n ≡ false → outside n word ≡ false → answerOf n need word [] [] [] [] ≡ Done
+unfolding runAnswer first firstWhere
+empty-taken n need word c w o = simp (c, w, o)

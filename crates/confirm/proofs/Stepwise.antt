@@ -1,6 +1,6 @@
 -- A run equals its steps: what an accepted run writes is what the public constructor and steps show, one after the other.
 use mathlib.Core.Path.{_≡_, refl, sym, ap, _∙_}
-use mathlib.Core.List.{List}
+use mathlib.Core.List.{List, map}
 use mathlib.Core.Bool.{Bool, true, false, not}
 use Prim.Native.Nat.{ℕ, _+_, _-_, _≤_}
 use native.Mathlib.Omega.{arith}
@@ -15,9 +15,8 @@ use Rattle.trace.specs.declared.RunAnswer.the-variants.{Done}
 use Rattle.trace.proofs.Samples.{nowhere}
 use Rattle.trace.proofs.Steps.{agree}
 use Rattle.confirm.specs.declared.Confirm.{Confirm}
-use Rattle.confirm.specs.declared.ConfirmStep.{ConfirmStep}
 use Rattle.confirm.specs.Confirm.{fresh, held, confirmed, clauses, made, madeOf, stepOf}
-use Rattle.confirm.specs.Run.{steps, publicSteps, wordsOf, marksOf, countsOf, answerOf, Ran, Stepwise}
+use Rattle.confirm.specs.Run.{leaves, steps, publicSteps, shownWord, shownMark, shownCount, answerOf, Ran, Stepwise}
 use Rattle.confirm.proofs.Exactly.{run-exactly}
 
 -- a state of width n that a step takes
@@ -59,7 +58,7 @@ module _ (n need word : ℕ) (samples words marks counts : List ℕ) where
       let inside = p .1 .1 .1 .1 .0 in
       let start : Sound n (fresh n need word) = record { width = refl; counted = p .0; wide = p .1 .0; small = omega arith; input-in = inside; output-in = inside } in
       rw (made-fresh e)
-      (agree clauses stepOf (λ (t : ConfirmStep). t .state) (Sound n) (λ (x : ℕ). outside n x ≡ false) (taken n) (sound-next n) 0
+      (agree clauses stepOf leaves (Sound n) (λ (x : ℕ). outside n x ≡ false) (taken n) (sound-next n) 0
       (fresh n need word) samples start (nowhere (outside n) samples 0 (p .1 .1 .1 .1 .1 .0)))
 
   pub run-is-steps :
@@ -69,7 +68,7 @@ module _ (n need word : ℕ) (samples words marks counts : List ℕ) where
       let e : answerOf n need word samples words marks counts ≡ Done = sym (ran .answered) ∙ d in
       record {
         taken = rw (made-fresh e);
-        words-same = (rw d at (ran .words-after)) ∙ ap wordsOf (same-steps e);
-        marks-same = (rw d at (ran .marks-after)) ∙ ap marksOf (same-steps e);
-        counts-same = (rw d at (ran .counts-after)) ∙ ap countsOf (same-steps e);
+        words-same = (rw d at (ran .words-after)) ∙ ap (map shownWord) (same-steps e);
+        marks-same = (rw d at (ran .marks-after)) ∙ ap (map shownMark) (same-steps e);
+        counts-same = (rw d at (ran .counts-after)) ∙ ap (map shownCount) (same-steps e);
       }

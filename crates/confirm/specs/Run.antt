@@ -13,22 +13,25 @@ use Rattle.confirm.specs.declared.ConfirmStep.{ConfirmStep}
 use Rattle.confirm.specs.Answers.{wordOf, markOf}
 use Rattle.confirm.specs.Confirm.{fresh, clauses, madeOf, stepOf}
 
--- one step for each sample by the clauses, and the same by the public step
+-- a step leaves a state, and shows a word, a mark byte and a count
+abbrev pub leaves : ConfirmStep → Confirm
+leaves t = t .state
+
+abbrev pub shownWord : ConfirmStep → ℕ
+shownWord t = wordOf (t .answer)
+
+abbrev pub shownMark : ConfirmStep → ℕ
+shownMark t = markOf (t .answer)
+
+abbrev pub shownCount : ConfirmStep → ℕ
+shownCount t = t .state .count
+
+-- one step for each sample: by the clauses, and by the public call
 abbrev pub steps : Confirm → List ℕ → List ConfirmStep
-steps = trace clauses (λ (t : ConfirmStep). t .state)
+steps = trace clauses leaves
 
 abbrev pub publicSteps : Confirm → List ℕ → List ConfirmStep
-publicSteps = trace stepOf (λ (t : ConfirmStep). t .state)
-
--- what a run writes of each: the output word, the mark byte and the count after the step
-abbrev pub wordsOf : List ConfirmStep → List ℕ
-wordsOf = map (λ (t : ConfirmStep). wordOf (t .answer))
-
-abbrev pub marksOf : List ConfirmStep → List ℕ
-marksOf = map (λ (t : ConfirmStep). markOf (t .answer))
-
-abbrev pub countsOf : List ConfirmStep → List ℕ
-countsOf = map (λ (t : ConfirmStep). t .state .count)
+publicSteps = trace stepOf leaves
 
 -- 4: a lent slice has another length than the trace
 abbrev pub unequal : List ℕ → List ℕ → List ℕ → List ℕ → Bool
@@ -42,14 +45,14 @@ answerOf n need word samples words marks counts =
 -- what a run promises of its answer and of each lent slice
 pub record Ran (n need word : ℕ) (samples words marks counts : List ℕ) (r : RunAnswer) (words′ marks′ counts′ : List ℕ) : Type 0 where
   pub answered : r ≡ answerOf n need word samples words marks counts
-  pub words-after : words′ ≡ after r words (wordsOf (steps (fresh n need word) samples))
-  pub marks-after : marks′ ≡ after r marks (marksOf (steps (fresh n need word) samples))
-  pub counts-after : counts′ ≡ after r counts (countsOf (steps (fresh n need word) samples))
+  pub words-after : words′ ≡ after r words (map shownWord (steps (fresh n need word) samples))
+  pub marks-after : marks′ ≡ after r marks (map shownMark (steps (fresh n need word) samples))
+  pub counts-after : counts′ ≡ after r counts (map shownCount (steps (fresh n need word) samples))
 
 -- "a run equals its steps": the public constructor takes n, N and the word, and what the run wrote is what the public steps
 -- show, one after the other, from the state that it made
 pub record Stepwise (n need word : ℕ) (samples words′ marks′ counts′ : List ℕ) : Type 0 where
   pub taken : madeOf n need word .refusal ≡ 0
-  pub words-same : words′ ≡ wordsOf (publicSteps (madeOf n need word .state) samples)
-  pub marks-same : marks′ ≡ marksOf (publicSteps (madeOf n need word .state) samples)
-  pub counts-same : counts′ ≡ countsOf (publicSteps (madeOf n need word .state) samples)
+  pub words-same : words′ ≡ map shownWord (publicSteps (madeOf n need word .state) samples)
+  pub marks-same : marks′ ≡ map shownMark (publicSteps (madeOf n need word .state) samples)
+  pub counts-same : counts′ ≡ map shownCount (publicSteps (madeOf n need word .state) samples)

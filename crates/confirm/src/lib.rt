@@ -1,11 +1,12 @@
 // Confirmation of a tuple (document 000, definition 6): a state, one step on it, and a run over a lent trace.
 use trace::RunAnswer;
 ghost use mathlib.Core.Path.{_≡_};
+ghost use mathlib.Core.List.{map};
 ghost use lib.ListN.{length};
 ghost use Rattle.rules.specs.Limits.{defaultWord};
 ghost use Rattle.confirm.specs.Answers.{numberOf, wordOf, markOf};
 ghost use Rattle.confirm.specs.Confirm.{fresh, held, confirmed, clauses, madeOf, badState, stepOf};
-ghost use Rattle.confirm.specs.Run.{steps, wordsOf, marksOf, countsOf, Ran};
+ghost use Rattle.confirm.specs.Run.{steps, shownWord, shownMark, shownCount, Ran};
 
 // The state of a confirmation, with its width n and its count N (`need`).
 pub struct Confirm {
@@ -195,9 +196,9 @@ fn write_steps(
     requires { ⌜ length (now samples) ≡ length (now words) ⌝ }
     requires { ⌜ length (now samples) ≡ length (now marks) ⌝ }
     requires { ⌜ length (now samples) ≡ length (now counts) ⌝ }
-    ensures { λ _. ⌜ now (words .exit) ≡ wordsOf (steps start (now (samples .entry))) ⌝ }
-    ensures { λ _. ⌜ now (marks .exit) ≡ marksOf (steps start (now (samples .entry))) ⌝ }
-    ensures { λ _. ⌜ now (counts .exit) ≡ countsOf (steps start (now (samples .entry))) ⌝ }
+    ensures { λ _. ⌜ now (words .exit) ≡ map shownWord (steps start (now (samples .entry))) ⌝ }
+    ensures { λ _. ⌜ now (marks .exit) ≡ map shownMark (steps start (now (samples .entry))) ⌝ }
+    ensures { λ _. ⌜ now (counts .exit) ≡ map shownCount (steps start (now (samples .entry))) ⌝ }
 {
     let mut state = start;
     let mut i = 0;

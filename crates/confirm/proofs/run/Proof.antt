@@ -11,8 +11,6 @@ use Rattle.trace.proofs.Runs.{run-exactly}
 use Rattle.confirm.specs.Run.{answerOf, unequal}
 use Rattle.confirm.proofs.run.Statement.{statement}
 use Rattle.confirm.proofs.run.Tie as tie
-use Rattle.confirm.proofs.run.Reads as reads
-use Rattle.confirm.proofs.run.Lts as lts
 
 answered : (c : tie.After-judge) → let a = c .before .before .before .before .before .before .args in
     c .judge .result ≡ answerOf (a .n) (a .need) (a .word) (a .samples .now) (a .words .now) (a .marks .now) (a .counts .now)

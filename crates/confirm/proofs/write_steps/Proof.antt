@@ -1,70 +1,43 @@
--- `confirm::write_steps` meets its contract. The invariant: each slice is written before i, and the samples from i on give the rest (`Filled`).
-use mathlib.Core.Path.{_≡_, refl, sym, ap, _∙_}
-use Prim.Native.Nat.{ℕ, _-_, _≤_}
+-- `confirm::write_steps` meets its contract. The invariant: each slice is written before i, and the samples from i on give the rest.
+use mathlib.Core.Path.{refl}
+use Prim.Native.Nat.{_-_, _≤_}
 use native.Mathlib.Omega.{arith}
 use borrow.Author.Needs.{needs}
 use lib.ListN.{length}
 use Rattle.trace.proofs.Fill.{Filled, turn, done}
-use Rattle.confirm.specs.declared.Confirm.{Confirm}
-use Rattle.confirm.specs.declared.ConfirmStep.{ConfirmStep}
-use Rattle.confirm.specs.Answers.{wordOf, markOf}
 use Rattle.confirm.specs.Confirm.{clauses}
+use Rattle.confirm.specs.Run.{leaves, shownWord, shownMark, shownCount}
 use Rattle.confirm.proofs.write_steps.Statement.{statement}
 use Rattle.confirm.proofs.write_steps.Tie as tie
-
-abbrev next : ConfirmStep → Confirm
-next t = t .state
-
-abbrev shown : ConfirmStep → ℕ
-shown t = wordOf (t .answer)
-
-abbrev marked : ConfirmStep → ℕ
-marked t = markOf (t .answer)
-
-abbrev counted : ConfirmStep → ℕ
-counted t = t .state .count
 
 abbrev Inv-loop : tie.InvT-loop
 Inv-loop samples words₀ marks₀ counts₀ state₀ i₀ words marks counts state i =
     (i ≤ length samples)
-    × Filled clauses next shown state₀ samples words i state
-    × Filled clauses next marked state₀ samples marks i state
-    × Filled clauses next counted state₀ samples counts i state
+    × Filled clauses leaves shownWord state₀ samples words i state
+    × Filled clauses leaves shownMark state₀ samples marks i state
+    × Filled clauses leaves shownCount state₀ samples counts i state
 
 abbrev μ-loop : tie.MeasureT-loop
 μ-loop samples words₀ marks₀ counts₀ state₀ i₀ words marks counts state i = length samples - i
 
-loop-holds : tie.Need-loop-holds Inv-loop μ-loop
-loop-holds c = (omega arith, (omega arith, refl), (omega arith, refl), (omega arith, refl))
-
 loop-again : tie.Need-loop-again Inv-loop μ-loop
 loop-again c =
-    let made = c .before .before .before in
-    let at = made .before .before .before in
-    let l = at .loop in
-    let a = at .before .before .before .before .before .args in
-    let xs = a .samples .now in
-    let more = made .before .before .loop-test .taken in
-    let t = made .clauses .result in
-    let e = made .clauses .ensures in (
+    let taken = c .before .before .before in
+    let inv = taken .before .before .before .loop .inv in
+    let t = taken .clauses .result in
+    let e = taken .clauses .ensures in
+    let more = taken .before .before .loop-test .taken in (
       omega arith,
-      turn clauses next shown (a .start) xs (l .words) (l .i) (l .state) 0 t (c .before .word .result) e (c .before .word .ensures) more (l .inv .1),
-      turn clauses next marked (a .start) xs (l .marks) (l .i) (l .state) 0 t (c .mark .result) e (c .mark .ensures) more (l .inv .2),
-      turn clauses next counted (a .start) xs (l .counts) (l .i) (l .state) 0 t (t .state .count) e refl more (l .inv .3),
+      turn clauses leaves shownWord _ _ _ _ _ 0 t _ e (c .before .word .ensures) more (inv .1),
+      turn clauses leaves shownMark _ _ _ _ _ 0 t _ e (c .mark .ensures) more (inv .2),
+      turn clauses leaves shownCount _ _ _ _ _ 0 t _ e refl more (inv .3),
     )
 
 returns : tie.Need-returns Inv-loop μ-loop
 returns c =
-    let l = c .before .loop in
-    let a = c .before .before .before .before .before .before .args in
-    let xs = a .samples .now in
-    let past = c .loop-test .left in (
-      done clauses next shown (a .start) xs (l .words) (l .i) (l .state) past (l .inv .1),
-      (
-        done clauses next marked (a .start) xs (l .marks) (l .i) (l .state) past (l .inv .2),
-        done clauses next counted (a .start) xs (l .counts) (l .i) (l .state) past (l .inv .3),
-      ),
-    )
+    let inv = c .before .loop .inv in
+    let past = c .loop-test .left in
+    (done clauses leaves shownWord _ _ _ _ _ past (inv .1), (done clauses leaves shownMark _ _ _ _ _ past (inv .2), done clauses leaves shownCount _ _ _ _ _ past (inv .3)))
 
 pub write-steps-spec : {M : Type 1} → statement M
 write-steps-spec =
@@ -72,7 +45,7 @@ write-steps-spec =
     (tie.spec
     Inv-loop
     μ-loop
-    loop-holds
+    (λ c. (omega arith, (omega arith, refl), (omega arith, refl), (omega arith, refl)))
     (λ c. search needs)
     (λ c. search needs)
     (λ _ _. tt)

@@ -9,8 +9,6 @@ use Rattle.trace.specs.Samples.{firstWhere}
 use Rattle.trace.proofs.Samples.{found, missed, no-more}
 use Rattle.trace.proofs.first_outside.Statement.{statement}
 use Rattle.trace.proofs.first_outside.Tie as tie
-use Rattle.trace.proofs.first_outside.Reads as reads
-use Rattle.trace.proofs.first_outside.Lts as lts
 
 abbrev Inv-loop : tie.InvT-loop
 Inv-loop n samples i₀ i = (i ≤ length samples) × (firstWhere (outside n) samples ≡ i + firstWhere (outside n) (drop i samples))

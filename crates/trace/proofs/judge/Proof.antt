@@ -13,8 +13,6 @@ use Rattle.trace.proofs.Runs.{early, refused-early, refused-late, done}
 use Rattle.rules.proofs.Tables.{exactly}
 use Rattle.trace.proofs.judge.Statement.{statement}
 use Rattle.trace.proofs.judge.Tie as tie
-use Rattle.trace.proofs.judge.Reads as reads
-use Rattle.trace.proofs.judge.Lts as lts
 
 -- the refusal is the table's, as far as it is known
 known : (c : tie.After-run-refusal) → let a = c .before .before .args in

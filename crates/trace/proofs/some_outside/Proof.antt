@@ -11,8 +11,6 @@ use Rattle.trace.proofs.Samples.{somewhere-next, nowhere-more}
 use Rattle.rules.proofs.Width.{outside-or, zero-inside}
 use Rattle.trace.proofs.some_outside.Statement.{statement}
 use Rattle.trace.proofs.some_outside.Tie as tie
-use Rattle.trace.proofs.some_outside.Reads as reads
-use Rattle.trace.proofs.some_outside.Lts as lts
 
 abbrev Inv-loop : tie.InvT-loop
 Inv-loop n samples union₀ i₀ union i = (i ≤ length samples) × (outside n union || somewhere (outside n) (drop i samples) ≡ somewhere (outside n) samples)
