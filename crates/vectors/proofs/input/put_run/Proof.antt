@@ -1,0 +1,17 @@
+-- `input::put_run` stays within the slice and ends.
+use Prim.Native.Nat.{_-_, _≤_}
+use mathlib.Core.Path.{_≡_}
+use lib.ListN.{length, length-set}
+use native.Mathlib.Omega.{arith}
+use borrow.Author.Needs.{needs}
+use Rattle.vectors.proofs.input.put_run.Statement.{statement}
+use Rattle.vectors.proofs.input.put_run.Tie as tie
+
+abbrev Inv-loop : tie.InvT-loop
+Inv-loop into₀ at value times next₀ left₀ into next left = (at ≤ next) × (next ≤ length into) × (length into ≡ length into₀)
+
+abbrev μ-loop : tie.MeasureT-loop
+μ-loop into₀ at value times next₀ left₀ into next left = left
+
+pub put-run-spec : {M : Type 1} → statement M
+put-run-spec = tie.close (tie.spec Inv-loop μ-loop (λ c. search needs) (λ c. omega arith) (λ c. search needs) (λ c. search needs) (λ c. search needs) (λ c. search needs) (λ c. search needs) (λ c. search needs) (λ c. simp length-set (omega arith)) (λ c. omega arith) (λ c. search needs))

@@ -1,0 +1,117 @@
+"""The settled examples of document 01, each with the answer its text gives.
+
+Numbers of an answer of which the example says nothing follow from the clauses.
+Run as a program, it checks every example.
+"""
+
+from collections import namedtuple
+
+import lines
+import protocol
+from protocol import to_bits
+
+Example = namedtuple('Example', 'name room call answer')
+
+LISTED = lines.good_recording(2, 2, 0, [0, 10, 20, 30, 40, 50], [[0, 1, 1, 3, 3, 3]])
+LISTING = '''confirm 6 2 2
+0 00000000 H 00000001
+1 00000000 H 00000000
+2 00000000 H 00000001
+3 00000000 H 00000000
+4 00000000 H 00000001
+5 00000003 C 00000001
+'''
+
+
+def readings(*values):
+    return lines.line('threshold', [to_bits(value) for value in values])
+
+
+EXAMPLES = [
+    Example('n 1, Tm 10, TM 12, D 0: N 1, age 12, quiet gap 24',
+            'sizing', 'sizing 1 10 12 0', '0 1 12 24'),
+    Example('D 9: N 1', 'sizing', 'sizing 1 10 12 9', '0 1 21 33'),
+    Example('D 10: N 2', 'sizing', 'sizing 1 10 12 10', '0 2 34 46'),
+    Example('n 3, Tm 10, TM 12, D 25: N 3, age 133, quiet gap 145',
+            'sizing', 'sizing 3 10 12 25', '0 3 133 145'),
+    Example('Tm 1, TM 1, D 999: N 1,000', 'sizing', 'sizing 1 1 1 999', '0 1000 1999 2000'),
+    Example('Tm 1, TM 1, D 1,000: refusal 10', 'sizing', 'sizing 1 1 1 1000', '10 0 0 0'),
+    Example('The listing above', 'listing', lines.listing_line(LISTED),
+            '%d %s' % (len(LISTING), LISTING.replace('\n', '|'))),
+    Example('The listing above, its recording read', 'recording', lines.read_line(LISTED),
+            '0 0 1 6 2 2 0 2048 0 10 20 30 40 50 3735928559*2042 2048 0 1*2 3*3 7*2042 '
+            '2048 4277009102*2048 2048 2863311530*2048 2048 99*2048'),
+    Example('The listing above, as a run', 'confirm',
+            'confirm.run 2 2 0 6 0 1*2 3*3 6 3735928559 6 170 6 3735928559',
+            '0 0 6 0*5 3 6 1*5 0 6 1 0 1 0 1*2'),
+    Example('Plain vote, N 1: the first disagreement alarms',
+            'vote', 'vote.step 1 1 0 0 0 1 0', '0 0 2 1 1 0 0'),
+    Example('N 3: held', 'vote', 'vote.step 1 3 0 0 0 1 0', '0 0 1 1 3 0 1'),
+    Example('N 3: held, held', 'vote', 'vote.step 1 3 0 1 0 1 0', '0 0 1 1 3 0 2'),
+    Example('N 3: held, held, alarm', 'vote', 'vote.step 1 3 0 2 0 1 0', '0 0 2 1 3 0 2'),
+    Example('N 3: a following agreement is agreed',
+            'vote', 'vote.step 1 3 0 2 1 1 0', '0 1 0 1 3 1 0'),
+    Example('N 3: held, held, alarm, agreed, as a run', 'vote',
+            'vote.run 1 3 0 4 0*3 1 4 1*4 4 3735928559 4 170', '0 0 4 0*3 1 4 1*2 2 0'),
+    Example('(5,5,5,5) agreed 5',
+            'reserve', 'reserve.step 0 3 2 0 0 5 5 5 5', '0 5 0 1 0 3 2 5 0'),
+    Example('(5,7,5,4) held 5',
+            'reserve', 'reserve.step 0 3 2 5 0 5 7 5 4', '0 5 1 1 0 3 2 5 1'),
+    Example('(5,7,5,4) alarm',
+            'reserve', 'reserve.step 0 3 2 5 1 5 7 5 4', '0 5 2 1 1 3 2 5 1'),
+    Example('(5,7,5,4) held 5, taking over',
+            'reserve', 'reserve.step 1 3 2 5 1 5 7 5 4', '0 5 1 2 2 3 2 5 0'),
+    Example('(5,7,5,4) held 5, reserve',
+            'reserve', 'reserve.step 2 3 2 5 0 5 7 5 4', '0 5 1 2 2 3 2 5 1'),
+    Example('(5,7,4,4) agreed 4',
+            'reserve', 'reserve.step 2 3 2 5 1 5 7 4 4', '0 4 0 2 2 3 2 4 0'),
+    Example('Reserve vote, N 2, n 3, initial 0, as a run', 'reserve',
+            'reserve.run 3 2 0 6 5*6 6 5 7*5 6 5*5 4 6 5 4*5 6 3735928559 6 170',
+            '0 0 6 5*5 4 6 0 1 2 1*2 0'),
+    Example('Readings 0.0, 0.5, 1.0, tolerance 0.5: agreed 0.5',
+            'threshold', readings(0.0, 0.5, 1.0, 0.5), '0 0 %d' % to_bits(0.5)),
+    Example('1.0, 2.0, 3.0, tolerance 0.5: alarm',
+            'threshold', readings(1.0, 2.0, 3.0, 0.5), '0 2 0'),
+    Example('-0, 0, 1.0, tolerance 0: agreed -0',
+            'threshold', readings(-0.0, 0.0, 1.0, 0.0), '0 0 9223372036854775808'),
+]
+
+
+def width_examples():
+    """n 32 accepts every word; n 31 refuses 80000000 hex."""
+    refused = {'confirm': '5 1 1 0 0 0', 'vote': '5 1 1 0 0', 'reserve': '5 0 1 1 0 0',
+               'tuple': '5 1 1 0 0 0 0' + 32 * ' 0'}
+    made = {'confirm': '0 32 1 {0} {0} 0', 'vote': '0 32 1 {0} 0', 'reserve': '0 0 32 1 {0} 0',
+            'tuple': '0 32 1 {0} {0} 0 {0}' + 32 * ' 0'}
+    for room in ('confirm', 'vote', 'tuple', 'reserve'):
+        for word in (2147483648, 4294967295):
+            yield Example('n 32 accepts every word', room,
+                          '%s.from_word 32 1 %d' % (room, word), made[room].format(word))
+        yield Example('n 31 refuses 80000000 hex', room,
+                      '%s.from_word 31 1 2147483648' % room, refused[room])
+
+
+def length_examples():
+    """2,048 samples pass, 2,049 do not. All at rest with N 1: every output number is 0."""
+    for room in ('confirm', 'vote', 'tuple', 'reserve'):
+        for length in (2048, 2049):
+            columns = [[0] * length] * lines.UNITS[room]
+            lent = [(length, 170)] * len(lines.OUTPUTS[room])
+            first, left = ('0 0', 0) if length == 2048 else ('3 0', 170)
+            slices = ' %d %d*%d' % (length, left, length) * len(lent)
+            yield Example('2,048 samples pass, 2,049 do not', room,
+                          lines.run_line(room, 1, 1, 0, columns, lent), first + slices)
+
+
+EXAMPLES += list(width_examples()) + list(length_examples())
+
+
+def calls(room):
+    """The calls of a room's examples."""
+    return [example.call for example in EXAMPLES if example.room == room]
+
+
+if __name__ == '__main__':
+    for one in EXAMPLES:
+        assert protocol.answer(one.call) == one.answer, one.name
+    print('%d settled examples hold' % len(EXAMPLES))

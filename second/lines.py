@@ -1,0 +1,63 @@
+"""Puts call lines together: runs, recordings, listings."""
+
+from chance import pick
+from protocol import show_slice
+
+UNITS = {'confirm': 1, 'vote': 2, 'tuple': 2, 'reserve': 4}
+OUTPUTS = {'confirm': ['words', 'marks', 'counts'], 'vote': ['words', 'marks'],
+           'tuple': ['words', 'masks', 'marks'], 'reserve': ['words', 'marks']}
+WORD_FILLS = [3735928559, 4277009102, 2863311530]
+MARK_FILLS = [7, 99, 170, 238]
+
+TAG = 0x31525351  # "QSR1" as a little-endian number
+WELL_LENT = [(2048, 3735928559), (2048, 7), (2048, 4277009102), (2048, 2863311530), (2048, 99)]
+
+
+def line(name, values):
+    """A call of plain numbers."""
+    return ' '.join([name] + ['%d' % value for value in values])
+
+
+def lent_for(kind, length, chance):
+    """(length, fill) for each output slice of a run."""
+    return [(length, pick(chance, MARK_FILLS if output == 'marks' else WORD_FILLS))
+            for output in OUTPUTS[kind]]
+
+
+def lent_text(lent):
+    """LENT for each (length, fill)."""
+    return ' '.join('%d %d' % one for one in lent)
+
+
+def run_line(kind, n, N, word, columns, lent):
+    """A call of a run."""
+    lists = ' '.join(show_slice(column) for column in columns)
+    return '%s.run %d %d %d %s %s' % (kind, n, N, word, lists, lent_text(lent))
+
+
+def fields(units, samples, n, N, word):
+    """The header of a recording as eleven numbers: tag, units, samples, n, N, initial word,
+    offset of the times, offsets of the unit columns."""
+    offsets = [44 + 4 * samples * unit if unit <= units else 0 for unit in (1, 2, 3, 4)]
+    return [TAG, units, samples, n, N, word, 44] + offsets
+
+
+def recording(header, columns):
+    """The bytes: the header's numbers, then the columns, times first."""
+    values = header + [value for column in columns for value in column]
+    return b''.join(value.to_bytes(4, 'little') for value in values)
+
+
+def good_recording(n, N, word, times, columns):
+    """The bytes of a recording of these unit columns."""
+    return recording(fields(len(columns), len(times), n, N, word), [times] + columns)
+
+
+def read_line(data, lent=WELL_LENT):
+    """A call of the reader."""
+    return 'recording.read %s %s' % (show_slice(list(data)), lent_text(lent))
+
+
+def listing_line(data):
+    """A call of the listing."""
+    return 'listing %s' % show_slice(list(data))

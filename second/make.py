@@ -1,0 +1,129 @@
+"""Makes the calls of every room and the answers to them, and stores them, or compares with what is stored.
+
+    python3 make.py             writes the stored files
+    python3 make.py --check     compares them with what would be written, and writes nothing
+    python3 make.py --errors    prints the calls that tell the five errors of document 01 apart
+
+A room that the crate `vectors` calls, by its line in crates.txt, has its calls in that crate's stdin and
+their answers in its stdout. The other rooms wait in `stored`, a file of each for every room.
+"""
+
+import os
+import sys
+
+import generate
+import protocol
+
+HERE = os.path.dirname(os.path.abspath(__file__))
+TOP = os.path.dirname(HERE)
+STORED = os.path.join('second', 'stored')
+VECTORS = os.path.join('crates', 'vectors')
+
+
+def called_rooms():
+    """The rooms that the line of `vectors` in crates.txt names, in our order."""
+    with open(os.path.join(TOP, 'crates.txt'), encoding='utf-8') as file:
+        lines = [line.split('#')[0].partition(':') for line in file]
+    named = [name for crate, _, names in lines if crate.strip() == 'vectors' for name in names.split()]
+    return [room for room in generate.ROOMS if room in named]
+
+
+def texts(rooms):
+    """The calls of these rooms, one a line, and the answers."""
+    calls = [case.call for room in rooms for case in generate.room_cases(room)]
+    return (''.join(call + '\n' for call in calls),
+            ''.join(protocol.answer(call) + '\n' for call in calls))
+
+
+def made_files():
+    """The text of every stored file, by its name below the repository's top."""
+    called = called_rooms()
+    files = dict(zip((os.path.join(VECTORS, 'stdin'), os.path.join(VECTORS, 'stdout')), texts(called)))
+    for room in generate.ROOMS:
+        if room not in called:
+            names = [os.path.join(STORED, room + ending) for ending in ('.calls', '.answers')]
+            files.update(zip(names, texts([room])))
+    return files
+
+
+def stored_names():
+    """What is stored now."""
+    folder = os.path.join(TOP, STORED)
+    waiting = sorted(os.listdir(folder)) if os.path.isdir(folder) else []
+    return [os.path.join(STORED, name) for name in waiting]
+
+
+def write(files):
+    for name in stored_names():
+        if name not in files:
+            os.remove(os.path.join(TOP, name))
+    for name, text in files.items():
+        whole = os.path.join(TOP, name)
+        os.makedirs(os.path.dirname(whole), exist_ok=True)
+        with open(whole, 'wb') as file:
+            file.write(text.encode('ascii'))
+        print('%s: %d lines, %d bytes' % (name, text.count('\n'), len(text)))
+
+
+def first_difference(stored, made):
+    """The number of the first line that differs."""
+    stored, made = stored.split(b'\n'), made.split(b'\n')
+    for number, (one, two) in enumerate(zip(stored, made), 1):
+        if one != two:
+            return number
+    return min(len(stored), len(made)) + 1
+
+
+def check(files):
+    """Exit status: 0 if exactly these files are stored, as made."""
+    for name in stored_names():
+        if name not in files:
+            print('%s is stored and not made' % name)
+            return 1
+    for name, text in files.items():
+        whole = os.path.join(TOP, name)
+        if not os.path.exists(whole):
+            print('%s is missing' % name)
+            return 1
+        with open(whole, 'rb') as file:
+            stored = file.read()
+        if stored != text.encode('ascii'):
+            print('%s differs at line %d' % (name, first_difference(stored, text.encode('ascii'))))
+            return 1
+    print('second: %d files are exactly as made' % len(files))
+    return 0
+
+
+def error_lines():
+    """(error, room, number of the call in its room, call) for each call that is named for an error."""
+    for room in generate.ROOMS:
+        for number, case in enumerate(generate.room_cases(room), 1):
+            if case.error != 0:
+                yield case.error, room, number, case.call
+
+
+def print_errors():
+    found = list(error_lines())
+    for error, name in generate.ERRORS.items():
+        print('error %d, %s:' % (error, name))
+        for number, room, at, call in found:
+            if number == error:
+                print('  %s, call %d: %s' % (room, at, call))
+
+
+def main(words):
+    if words == ['--errors']:
+        print_errors()
+        return 0
+    if words not in ([], ['--check']):
+        print(__doc__)
+        return 2
+    files = made_files()
+    if words:
+        return check(files)
+    write(files)
+    return 0
+
+
+if __name__ == '__main__':
+    sys.exit(main(sys.argv[1:]))

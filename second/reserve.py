@@ -1,0 +1,69 @@
+"""Reserve vote over two pairs. Document 01, 'Reserve vote'; document 000, definition 17."""
+
+from collections import namedtuple
+
+import rules
+import vote
+
+PRIMARY, TAKING_OVER, RESERVE = 0, 1, 2  # which pair is in force
+
+State = namedtuple('State', 'phase vote')
+Made = namedtuple('Made', 'number state')
+Answer = namedtuple('Answer', 'number word mark pair state')
+Run = namedtuple('Run', 'number sample words marks')
+
+
+def fresh(n, N, word):
+    """Primary, with a fresh vote."""
+    return State(PRIMARY, vote.fresh(n, N, word))
+
+
+def from_word(n, N, word):
+    """The constructor with an initial word."""
+    number = rules.refuse_constructor(n, N, word)
+    if number != 0:
+        return Made(number, fresh(1, 1, 0))
+    return Made(0, fresh(n, N, word))
+
+
+def new(n, N):
+    """The second constructor takes no initial word; it uses zero."""
+    return from_word(n, N, 0)
+
+
+def step(state, a, b, c, d):
+    """One step on any state. The samples of all four units must be inside the width."""
+    number = rules.refuse_step(state.vote.n, state.vote.N, [a, b, c, d])
+    if number == 0 and vote.damaged(state.vote):
+        number = 7
+    if number != 0:
+        return Answer(number, 0, rules.NO_MARK, 0, state)
+    return clauses(state, a, b, c, d)
+
+
+def clauses(state, a, b, c, d):
+    """The vote of the pair in force. Whole words are compared."""
+    # Primary uses units 1 and 2. An alarm there makes the next step "taking over".
+    if state.phase == PRIMARY:
+        answer = vote.clauses(state.vote, a, b, False)
+        phase = TAKING_OVER if answer.mark == vote.ALARM else PRIMARY
+        return Answer(0, answer.word, answer.mark, 1, State(phase, answer.state))
+    # Taking over: units 3 and 4, with a reset. After that reserve: no reset, for ever.
+    reset = state.phase == TAKING_OVER
+    answer = vote.clauses(state.vote, c, d, reset)
+    return Answer(0, answer.word, answer.mark, 2, State(RESERVE, answer.state))
+
+
+def run(n, N, word, a, b, c, d, words, marks):
+    """A run equals its steps, taken from a fresh state."""
+    number, sample = rules.refuse_run(n, N, word, [a, b, c, d], [words, marks])
+    if number != 0:
+        return Run(number, sample, words, marks)
+    state = fresh(n, N, word)
+    words, marks = [], []
+    for samples in zip(a, b, c, d):
+        answer = step(state, *samples)
+        state = answer.state
+        words.append(answer.word)
+        marks.append(answer.mark)
+    return Run(0, 0, words, marks)

@@ -1,0 +1,99 @@
+"""Tuple vote. Document 01, 'Tuple vote'; document 000, definition 15."""
+
+from collections import namedtuple
+
+import confirm
+import rules
+import vote
+
+CONFIRMED, HELD, ALARM = 0, 1, 2  # the mark byte
+
+# agreed: the voters' last agreed bits as one word; counts: 32 places, one for each signal
+State = namedtuple('State', 'confirmation agreed counts')
+Made = namedtuple('Made', 'number state')
+Answer = namedtuple('Answer', 'number word mask mark state')
+Run = namedtuple('Run', 'number sample words masks marks')
+
+
+def fresh(n, N, word):
+    """Each signal has a vote of its own, with the same N, from its bit of the initial word."""
+    return State(confirm.fresh(n, N, word), word, (0,) * 32)
+
+
+def from_word(n, N, word):
+    """The constructor with an initial word."""
+    number = rules.refuse_constructor(n, N, word)
+    if number != 0:
+        return Made(number, fresh(1, 1, 0))
+    return Made(0, fresh(n, N, word))
+
+
+def new(n, N):
+    """The second constructor takes no initial word; it uses zero."""
+    return from_word(n, N, 0)
+
+
+def damaged(state):
+    """Number 7, for the confirmation, for the n voters, and for the places at n or above,
+    which must be as in a state freshly made from zero: agreed bit 0, count 0."""
+    n, N = state.confirmation.n, state.confirmation.N
+    return (confirm.damaged(state.confirmation)
+            or rules.outside(state.agreed, n)
+            or any(count > N - 1 for count in state.counts[:n])
+            or any(count != 0 for count in state.counts[n:]))
+
+
+def step(state, a, b):
+    """One step on any state."""
+    number = rules.refuse_step(state.confirmation.n, state.confirmation.N, [a, b])
+    if number == 0 and damaged(state):
+        number = 7
+    if number != 0:
+        return Answer(number, 0, 0, rules.NO_MARK, state)
+    return clauses(state, a, b)
+
+
+def vote_all(state, a, b):
+    """The plain vote of each signal, signal 0 first; none depends on another."""
+    N = state.confirmation.N
+    voters = [vote.State(1, N, rules.bit(state.agreed, i), state.counts[i])
+              for i in range(state.confirmation.n)]
+    return [vote.clauses(voter, rules.bit(a, i), rules.bit(b, i), False)
+            for i, voter in enumerate(voters)]
+
+
+def clauses(state, a, b):
+    """The voters' step, then the alarm mask or the confirmation's step."""
+    before = state.confirmation
+    answers = vote_all(state, a, b)
+    # Voters of all signals step in either case.
+    agreed = rules.word_of(answer.state.word for answer in answers)
+    counts = tuple(answer.state.count for answer in answers) + state.counts[before.n:]
+    # If any alarms: the alarm mask with the previous output; confirmation takes no step.
+    mask = rules.word_of(int(answer.mark == vote.ALARM) for answer in answers)
+    if mask != 0:
+        return Answer(0, before.output, mask, ALARM, State(before, agreed, counts))
+    # Otherwise the voted word takes a step of confirmation, with the same N.
+    voted = rules.word_of(answer.word for answer in answers)
+    # Number 8. Never met here: the word is put together from n bits.
+    if rules.outside(voted, before.n):
+        return Answer(8, 0, 0, rules.NO_MARK, state)
+    after = confirm.clauses(before, voted)
+    mark = CONFIRMED if after.mark == confirm.CONFIRMED else HELD
+    return Answer(0, after.word, 0, mark, State(after.state, agreed, counts))
+
+
+def run(n, N, word, a, b, words, masks, marks):
+    """A run equals its steps, taken from a fresh state."""
+    number, sample = rules.refuse_run(n, N, word, [a, b], [words, masks, marks])
+    if number != 0:
+        return Run(number, sample, words, masks, marks)
+    state = fresh(n, N, word)
+    words, masks, marks = [], [], []
+    for one, two in zip(a, b):
+        answer = step(state, one, two)
+        state = answer.state
+        words.append(answer.word)
+        masks.append(answer.mask)
+        marks.append(answer.mark)
+    return Run(0, 0, words, masks, marks)
