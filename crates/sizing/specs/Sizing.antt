@@ -1,0 +1,45 @@
+-- Sizing of counts and bounds: document 01, "Sizing"; document 000, 4.2.2 and 6.2.
+use Prim.Native.Nat.{ℕ, _+_, _*_, _/_}
+use mathlib.Core.List.{List, [], _∷_}
+use mathlib.Core.Bool.{Bool, _||_}
+use lib.Dec.{ltb, eqb}
+use Rattle.rules.specs.Limits.{badWidth}
+use Rattle.rules.specs.Table.{Row, _when_, first, answer}
+use Rattle.sizing.specs.declared.Sizing.{Sizing}
+
+-- 9: Tm is 0, or Tm > TM, or TM > 1,000,000
+abbrev pub badGaps : ℕ → ℕ → Bool
+badGaps tm tM = eqb tm 0 || ltb tM tm || ltb 1000000 tM
+
+-- 9: the delay is above 10,000,000
+abbrev pub badDelay : ℕ → Bool
+badDelay d = ltb 10000000 d
+
+-- the count is floor(D / Tm) + 1, for confirmation and for votes alike
+abbrev pub countOf : ℕ → ℕ → ℕ
+countOf tm d = d / tm + 1
+
+-- the age bound is n·N·TM + D, and the quiet gap, which two changes of one signal must exceed, is (n·N+1)·TM + D
+abbrev pub ageBound : ℕ → ℕ → ℕ → ℕ → ℕ
+ageBound n need tM d = n * need * tM + d
+
+abbrev pub quietGap : ℕ → ℕ → ℕ → ℕ → ℕ
+quietGap n need tM d = (n * need + 1) * tM + d
+
+-- 10: the count would exceed 1,000
+abbrev pub sizeRows : ℕ → ℕ → ℕ → ℕ → List Row
+sizeRows n tm tM d =
+    2 when badWidth n ∷
+    9 when (badGaps tm tM || badDelay d) ∷
+    10 when ltb 1000 (countOf tm d) ∷
+    []
+
+-- refused: zeros
+abbrev pub notSized : ℕ → Sizing
+notSized number = record { refusal = number; count = 0; age = 0; quiet = 0 }
+
+abbrev pub sized : ℕ → ℕ → ℕ → ℕ → Sizing
+sized n need tM d = record { refusal = 0; count = need; age = ageBound n need tM d; quiet = quietGap n need tM d }
+
+unfoldable pub sizingOf : ℕ → ℕ → ℕ → ℕ → Sizing
+sizingOf n tm tM d = answer (first (sizeRows n tm tM d)) notSized (sized n (countOf tm d) tM d)

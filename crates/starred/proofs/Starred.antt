@@ -1,0 +1,16 @@
+-- Every starred example holds: each row is computed.
+use mathlib.Core.Path.{refl}
+use lib.Ieee.{ofBits, sub, neg, le, lt}
+use Rattle.rules.specs.Table.{first}
+use Rattle.trace.specs.Samples.{firstWhere}
+use Rattle.trace.specs.Answers.{runAnswer}
+use Rattle.trace.specs.Trace.{trace}
+use Rattle.confirm.specs.Confirm.{clauses}
+use Rattle.sizing.specs.Sizing.{sizingOf}
+use Rattle.threshold.specs.Threshold.{thresholdOf}
+use Rattle.starred.specs.Rows.{Every}
+use Rattle.starred.specs.Table.{table}
+
+pub starred : Every table
+unfolding first firstWhere runAnswer trace clauses sizingOf thresholdOf ofBits sub neg le lt
+starred = (refl, (refl, (refl, (refl, (refl, ((refl, refl, refl, refl), (refl, (refl, (refl, tt)))))))))

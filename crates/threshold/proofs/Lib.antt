@@ -1,0 +1,6 @@
+pub mod Exactly
+pub mod Median
+pub mod Numbers
+pub mod Order
+pub mod Promises
+pub mod Unique

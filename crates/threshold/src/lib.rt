@@ -1,0 +1,92 @@
+// The 2/3 threshold vote on readings (document 000, 6.1): one call, without a state.
+ghost use mathlib.Core.Path.{_≡_};
+ghost use lib.Ieee.Scale as scale;
+ghost use Rattle.threshold.specs.Threshold.{lesser, greater, magnitudeOf, within, badReadings, agrees, medianOf, thresholdOf};
+
+// Three readings and their tolerance.
+pub struct Readings {
+    pub x1: f64,
+    pub x2: f64,
+    pub x3: f64,
+    pub tolerance: f64,
+}
+
+// The reading that was agreed on, an alarm, or a refusal's number.
+pub enum Threshold {
+    Agreed(f64),
+    Alarm,
+    Refused(u32),
+}
+
+// Below the one infinity and above the other: a NaN is neither.
+fn finite(x: f64) -> bool
+    ensures { λ r. ⌜ r ≡ scale.finite x ⌝ }
+{
+    let top = 1.0 / 0.0;
+    (x < top) & (-top < x)
+}
+
+fn min(a: f64, b: f64) -> f64
+    ensures { λ r. ⌜ r ≡ lesser a b ⌝ }
+{
+    if a <= b { a } else { b }
+}
+
+fn max(a: f64, b: f64) -> f64
+    ensures { λ r. ⌜ r ≡ greater a b ⌝ }
+{
+    if a >= b { a } else { b }
+}
+
+fn magnitude(d: f64) -> f64
+    ensures { λ r. ⌜ r ≡ magnitudeOf d ⌝ }
+{
+    if d < 0.0 { -d } else { d }
+}
+
+// The difference is one rounded operation.
+fn close(a: f64, b: f64, tolerance: f64) -> bool
+    ensures { λ r. ⌜ r ≡ within a b tolerance ⌝ }
+{
+    magnitude(a - b) <= tolerance
+}
+
+impl Readings {
+    // 11: one of the four is not finite, or the tolerance is below zero.
+    fn bad(self) -> bool
+        ensures { λ r. ⌜ r ≡ badReadings self ⌝ }
+    {
+        !finite(self.x1)
+            | !finite(self.x2)
+            | !finite(self.x3)
+            | !finite(self.tolerance)
+            | (self.tolerance < 0.0)
+    }
+
+    fn agree(self) -> bool
+        ensures { λ r. ⌜ r ≡ agrees self ⌝ }
+    {
+        close(self.x2, self.x1, self.tolerance)
+            | close(self.x3, self.x2, self.tolerance)
+            | close(self.x1, self.x3, self.tolerance)
+    }
+
+    fn median(self) -> f64
+        ensures { λ r. ⌜ r ≡ medianOf self ⌝ }
+    {
+        let low = max(min(self.x1, self.x2), min(self.x2, self.x3));
+        max(low, min(self.x3, self.x1))
+    }
+
+    pub fn vote(self) -> Threshold
+        ensures { λ r. ⌜ r ≡ thresholdOf self ⌝ }
+    {
+        if self.bad() {
+            return Threshold::Refused(11);
+        }
+        if self.agree() {
+            return Threshold::Agreed(self.median());
+        }
+        Threshold::Alarm
+    }
+}
