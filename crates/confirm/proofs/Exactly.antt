@@ -13,6 +13,7 @@ use Rattle.rules.specs.Refusals.{makeRows, runRows}
 use Rattle.rules.proofs.Tables.{exactly-when}
 use Rattle.trace.specs.Samples.{firstWhere, somewhere, Smallest}
 use Rattle.trace.specs.Answers.{runNumber, runSample, runAnswer}
+use Rattle.trace.specs.declared.RunAnswer.{RunAnswer}
 use Rattle.trace.specs.declared.RunAnswer.the-variants.{Done}
 use Rattle.trace.proofs.Runs as runs
 use Rattle.confirm.specs.declared.Confirm.{Confirm}
@@ -22,9 +23,9 @@ use Rattle.confirm.specs.Answers.{numberOf}
 use Rattle.confirm.specs.Confirm.{held, confirmed, clauses, made, notMade, madeOf, rowsOf, notTaken, stepOf}
 use Rattle.confirm.specs.Run.{unequal, answerOf}
 
-pub made-exactly : (n need word k : ℕ) → (madeOf n need word .refusal ≡ k) ↔ Given k (makeRows (badCount need) n word)
+pub from-word-exactly : (n need word k : ℕ) → (madeOf n need word .refusal ≡ k) ↔ Given k (makeRows (badCount need) n word)
 unfolding madeOf numbered
-made-exactly n need word = exactly-when (λ (m : ConfirmMade). m .refusal) (makeRows (badCount need) n word) notMade (made n need word) refl (λ k. refl) refl
+from-word-exactly n need word = exactly-when (λ (m : ConfirmMade). m .refusal) (makeRows (badCount need) n word) notMade (made n need word) refl (λ k. refl) refl
 
 -- the clauses refuse nothing
 pub none-refused : (s : Confirm) (x : ℕ) → numberOf (clauses s x .answer) ≡ 0
@@ -40,16 +41,19 @@ unfolding stepOf numbered
 step-exactly s x = exactly-when (λ (t : ConfirmStep). numberOf (t .answer)) (rowsOf s x) (notTaken s) (clauses s x) refl (λ k. refl) (none-refused s x)
 
 module _ (n need word : ℕ) (samples words marks counts : List ℕ) where
+  abbrev answered : RunAnswer
+  answered = answerOf n need word samples words marks counts
+
   pub run-exactly :
-      (k : ℕ) → (runNumber (answerOf n need word samples words marks counts) ≡ k)
+      (k : ℕ) → (runNumber answered ≡ k)
       ↔ Given k (runRows (badCount need) n word (tooLong (length samples)) (unequal samples words marks counts) (somewhere (outside n) samples))
-  run-exactly = runs.run-exactly _ _ _ _ _ outside samples
+  run-exactly = runs.answer-exactly _ _ _ _ _ outside samples
 
   -- 6 comes with the smallest sample outside the width, and any other number with sample 0
-  pub run-six : runNumber (answerOf n need word samples words marks counts) ≡ 6 → Smallest (outside n) samples (runSample (answerOf n need word samples words marks counts))
+  pub run-six : runNumber answered ≡ 6 → Smallest (outside n) samples (runSample answered)
   run-six = runs.six-smallest _ _ _ _ _ outside samples
 
-  pub run-others : (runNumber (answerOf n need word samples words marks counts) ≡ 6 → ⊥) → runSample (answerOf n need word samples words marks counts) ≡ 0
+  pub run-others : (runNumber answered ≡ 6 → ⊥) → runSample answered ≡ 0
   run-others = runs.other-zero _ _ _ _ _ outside samples
 
 -- an empty trace is accepted; as there is no place, nothing is written

@@ -4,20 +4,21 @@ use mathlib.Core.List.{List, map}
 use mathlib.Core.Bool.{Bool, true, false, not}
 use Prim.Native.Nat.{ℕ, _+_, _-_, _≤_}
 use native.Mathlib.Omega.{arith}
+use lib.ListN.{length}
 use lib.Dec.{ltb, eqb}
 use borrow.Author.Tests.{le-ltb, ltb-true}
 use Rattle.rules.specs.Choose.{if_then_else_}
-use Rattle.rules.specs.Limits.{badCount, badWidth, outside}
+use Rattle.rules.specs.Limits.{badCount, badWidth, tooLong, outside}
 use Rattle.rules.specs.Table.{first}
-use Rattle.trace.specs.Answers.{runNumber}
-use Rattle.trace.specs.declared.RunAnswer.{RunAnswer}
+use Rattle.rules.proofs.Readings.{Runs}
 use Rattle.trace.specs.declared.RunAnswer.the-variants.{Done}
+use Rattle.trace.specs.Samples.{somewhere}
+use Rattle.trace.proofs.Runs.{answer-done}
 use Rattle.trace.proofs.Samples.{nowhere}
 use Rattle.trace.proofs.Steps.{agree}
 use Rattle.confirm.specs.declared.Confirm.{Confirm}
 use Rattle.confirm.specs.Confirm.{fresh, held, confirmed, clauses, made, madeOf, stepOf}
-use Rattle.confirm.specs.Run.{leaves, steps, publicSteps, shownWord, shownMark, shownCount, answerOf, Ran, Stepwise}
-use Rattle.confirm.proofs.Exactly.{run-exactly}
+use Rattle.confirm.specs.Run.{leaves, steps, publicSteps, shownWord, shownMark, shownCount, unequal, answerOf, Ran, Stepwise}
 
 -- a state of width n that a step takes
 pub record Sound (n : ℕ) (s : Confirm) : Type 0 where
@@ -29,9 +30,9 @@ pub record Sound (n : ℕ) (s : Confirm) : Type 0 where
   pub output-in : outside n (s .output) ≡ false
 
 -- with a sample inside the width the public step on it is the clauses
-pub taken : (n : ℕ) (s : Confirm) (x : ℕ) → Sound n s → outside n x ≡ false → stepOf s x ≡ clauses s x
+pub step-is-clauses : (n : ℕ) (s : Confirm) (x : ℕ) → Sound n s → outside n x ≡ false → stepOf s x ≡ clauses s x
 unfolding stepOf first
-taken n s x g e = simp (g .width, g .counted, g .wide, e, le-ltb _ _ (g .small), g .input-in, g .output-in)
+step-is-clauses n s x g e = simp (g .width, g .counted, g .wide, e, le-ltb _ _ (g .small), g .input-in, g .output-in)
 
 -- and the clauses leave such a state again
 pub sound-next : (n : ℕ) (s : Confirm) (x : ℕ) → Sound n s → outside n x ≡ false → Sound n (clauses s x .state)
@@ -45,30 +46,33 @@ sound-next n s x g e = go (not (eqb x (s .input))) (ltb (s .count) (s .need - 1)
   go false true q = kept (s .output) (s .count + 1) (g .output-in) (omega (arith, ltb-true (s .count) (s .need - 1) q))
   go false false q = kept x (s .count) e (g .small)
 
-module _ (n need word : ℕ) (samples words marks counts : List ℕ) where
-  made-fresh : answerOf n need word samples words marks counts ≡ Done → madeOf n need word ≡ made n need word
+module _ (n need word : ℕ) (samples words marks counts : List ℕ) (accepted : answerOf n need word samples words marks counts ≡ Done) where
+  fine : Runs (badCount need) n word (tooLong (length samples)) (unequal samples words marks counts) (somewhere (outside n) samples)
+  fine = answer-done _ _ _ _ _ outside samples accepted
+
+  -- the public constructor makes the fresh state
+  made-fresh : madeOf n need word ≡ made n need word
   unfolding madeOf first
-  made-fresh e =
-      let p = run-exactly n need word samples words marks counts 0 .0 (ap runNumber e) in
-      simp (p .0, p .1 .0, p .1 .1 .1 .1 .0)
+  made-fresh = simp (fine .counted, fine .wide, fine .word-in)
 
-  pub same-steps : answerOf n need word samples words marks counts ≡ Done → steps (fresh n need word) samples ≡ publicSteps (madeOf n need word .state) samples
-  same-steps e =
-      let p = run-exactly n need word samples words marks counts 0 .0 (ap runNumber e) in
-      let inside = p .1 .1 .1 .1 .0 in
-      let start : Sound n (fresh n need word) = record { width = refl; counted = p .0; wide = p .1 .0; small = omega arith; input-in = inside; output-in = inside } in
-      rw (made-fresh e)
-      (agree clauses stepOf leaves (Sound n) (λ (x : ℕ). outside n x ≡ false) (taken n) (sound-next n) 0
-      (fresh n need word) samples start (nowhere (outside n) samples 0 (p .1 .1 .1 .1 .1 .0)))
+  start : Sound n (fresh n need word)
+  start = record { width = refl; counted = fine .counted; wide = fine .wide; small = omega arith; input-in = fine .word-in; output-in = fine .word-in }
 
-  pub run-is-steps :
-      (r : RunAnswer) (words′ marks′ counts′ : List ℕ) → r ≡ Done → Ran n need word samples words marks counts r words′ marks′ counts′
-      → Stepwise n need word samples words′ marks′ counts′
-  run-is-steps r words′ marks′ counts′ d ran =
-      let e : answerOf n need word samples words marks counts ≡ Done = sym (ran .answered) ∙ d in
-      record {
-        taken = rw (made-fresh e);
-        words-same = (rw d at (ran .words-after)) ∙ ap (map shownWord) (same-steps e);
-        marks-same = (rw d at (ran .marks-after)) ∙ ap (map shownMark) (same-steps e);
-        counts-same = (rw d at (ran .counts-after)) ∙ ap (map shownCount) (same-steps e);
-      }
+  -- and each public step is the clauses
+  pub same-steps : steps (fresh n need word) samples ≡ publicSteps (madeOf n need word .state) samples
+  same-steps =
+      rw made-fresh
+      (agree clauses stepOf leaves (Sound n) (λ (x : ℕ). outside n x ≡ false) (step-is-clauses n) (sound-next n) 0
+      (fresh n need word) samples start (nowhere (outside n) samples 0 (fine .samples-in)))
+
+pub run-is-steps :
+    (n need word : ℕ) (samples words marks counts words′ marks′ counts′ : List ℕ)
+    → Ran n need word samples words marks counts Done words′ marks′ counts′ → Stepwise n need word samples words′ marks′ counts′
+run-is-steps n need word samples words marks counts words′ marks′ counts′ ran =
+    let same = same-steps n need word samples words marks counts (sym (ran .answered)) in
+    record {
+      made = rw (made-fresh n need word samples words marks counts (sym (ran .answered)));
+      words-same = ran .words-after ∙ ap (map shownWord) same;
+      marks-same = ran .marks-after ∙ ap (map shownMark) same;
+      counts-same = ran .counts-after ∙ ap (map shownCount) same;
+    }

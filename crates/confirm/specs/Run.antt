@@ -52,7 +52,7 @@ pub record Ran (n need word : ℕ) (samples words marks counts : List ℕ) (r : 
 -- "a run equals its steps": the public constructor takes n, N and the word, and what the run wrote is what the public steps
 -- show, one after the other, from the state that it made
 pub record Stepwise (n need word : ℕ) (samples words′ marks′ counts′ : List ℕ) : Type 0 where
-  pub taken : madeOf n need word .refusal ≡ 0
+  pub made : madeOf n need word .refusal ≡ 0
   pub words-same : words′ ≡ map shownWord (publicSteps (madeOf n need word .state) samples)
   pub marks-same : marks′ ≡ map shownMark (publicSteps (madeOf n need word .state) samples)
   pub counts-same : counts′ ≡ map shownCount (publicSteps (madeOf n need word .state) samples)

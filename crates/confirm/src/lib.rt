@@ -73,12 +73,6 @@ impl ConfirmAnswer {
 }
 
 impl Confirm {
-    pub const MAX_COUNT: u32 = rules::MAX_COUNT;
-
-    pub const MAX_WIDTH: u32 = rules::MAX_WIDTH;
-
-    pub const MAX_SAMPLES: usize = rules::MAX_SAMPLES;
-
     fn fresh(n: u32, need: u32, word: u32) -> Confirm
         ensures { λ r. ⌜ r ≡ fresh n need word ⌝ }
     {
@@ -104,7 +98,7 @@ impl Confirm {
         ConfirmMade { state, refusal }
     }
 
-    // A fresh state from the word that stands for none.
+    // A fresh state from zero.
     pub fn new(n: u32, need: u32) -> ConfirmMade
         ensures { λ r. ⌜ r ≡ madeOf n need (defaultWord n) ⌝ }
     {
@@ -141,12 +135,13 @@ impl Confirm {
         }
     }
 
-    // The core: the clauses, in order; the first that applies is taken.
+    // The core, for rooms that have tested the state and the input themselves: the clauses, in order; the first that applies
+    // is taken, and nothing is refused.
     pub fn clauses(self, input: u32) -> ConfirmStep
         ensures { λ r. ⌜ r ≡ clauses self input ⌝ }
     {
-        let waiting = self.count < rules::last(self.need);
         let changed = input != self.input;
+        let waiting = self.count < rules::last(self.need);
         if changed {
             return self.held(input, 0);
         }
@@ -203,8 +198,7 @@ fn write_steps(
     let mut state = start;
     let mut i = 0;
     while i < samples.len() {
-        let at = i;
-        let taken = state.clauses(samples[at]);
+        let taken = state.clauses(samples[i]);
         let answer = taken.answer;
         state = taken.state;
         words[i] = answer.word();
@@ -224,7 +218,8 @@ pub fn run(
     marks: &mut [u8],
     counts: &mut [u32],
 ) -> RunAnswer
-    ensures { λ r. ⌜ Ran n need word (now (samples .entry)) (now (words .entry)) (now (marks .entry)) (now (counts .entry)) r (now (words .exit)) (now (marks .exit)) (now (counts .exit)) ⌝ }
+    ensures { λ r. ⌜ Ran n need word (now (samples .entry)) (now (words .entry)) (now (marks .entry)) (now (counts .entry))
+        r (now (words .exit)) (now (marks .exit)) (now (counts .exit)) ⌝ }
 {
     let len = samples.len();
     let unequal = (len != words.len()) | (len != marks.len()) | (len != counts.len());
@@ -233,5 +228,5 @@ pub fn run(
         return answer;
     };
     write_steps(Confirm::fresh(n, need, word), samples, words, marks, counts);
-    answer
+    RunAnswer::Done
 }

@@ -1,4 +1,5 @@
-pub mod Limits
+pub mod Promise
+pub mod Ranges
 pub mod Readings
 pub mod Tables
 pub mod Unique

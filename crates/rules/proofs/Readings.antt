@@ -1,81 +1,126 @@
--- The three tables read out: each number, exactly when its row's test is true and no lower row's is. Every voter's calls cite
--- these tables, so this page is read once for all of them.
+-- The three tables read out: each number, exactly when its row's test is true and no lower row's is; 0, nothing refused,
+-- exactly when no test is true. Every voter's calls have these tables, so this page is read once for all of them.
 use mathlib.Core.Path.{_≡_, refl}
 use mathlib.Core.Logic.{_↔_}
-use mathlib.Core.List.{List}
+use mathlib.Core.List.{List, List·Memᴰ}
 use mathlib.Core.Bool.{Bool, true, false}
-use Prim.Native.Nat.{ℕ}
+use Prim.Native.Nat.{ℕ, _≤_}
 use Rattle.rules.specs.Limits.{badWidth, outside}
-use Rattle.rules.specs.Table.{Row, first, numbered, rising, Given, _and_}
+use Rattle.rules.specs.Table.{Row, _when_, first, numbered, rising, Given, _and_}
 use Rattle.rules.specs.Refusals.{makeRows, stepRows, runRows}
-use Rattle.rules.proofs.Tables.{exactly}
+use Rattle.rules.proofs.Tables.{exactly, lowest}
 
-module _ (counts : Bool) (n word : ℕ) where
-  pub made : (k : ℕ) → (first (makeRows counts n word) ≡ k) ↔ Given k (makeRows counts n word)
+module _ (miscounted : Bool) (n word : ℕ) where
+  abbrev making : List Row
+  making = makeRows miscounted n word
+
+  pub make-exactly : (k : ℕ) → (first making ≡ k) ↔ Given k making
   unfolding numbered
-  made = exactly (makeRows counts n word) refl
+  make-exactly = exactly making refl
 
-  pub made-1 : (first (makeRows counts n word) ≡ 1) ↔ counts ≡ true
-  made-1 = made 1
+  pub make-1 : (first making ≡ 1) ↔ miscounted ≡ true
+  make-1 = make-exactly 1
 
-  pub made-2 : (first (makeRows counts n word) ≡ 2) ↔ counts ≡ false and badWidth n ≡ true
-  made-2 = made 2
+  pub make-2 : (first making ≡ 2) ↔ miscounted ≡ false and badWidth n ≡ true
+  make-2 = make-exactly 2
 
-  pub made-5 : (first (makeRows counts n word) ≡ 5) ↔ counts ≡ false and badWidth n ≡ false and outside n word ≡ true
-  made-5 = made 5
+  pub make-5 : (first making ≡ 5) ↔ miscounted ≡ false and badWidth n ≡ false and outside n word ≡ true
+  make-5 = make-exactly 5
 
-module _ (counts : Bool) (n : ℕ) (sample state : Bool) where
-  pub taken : (k : ℕ) → (first (stepRows counts n sample state) ≡ k) ↔ Given k (stepRows counts n sample state)
+  pub record Makes : Type 0 where
+    pub counted : miscounted ≡ false
+    pub wide : badWidth n ≡ false
+    pub word-in : outside n word ≡ false
+
+  pub make-0 : (first making ≡ 0) ↔ Makes
+  make-0 = (
+    λ e. let g = make-exactly 0 .0 e in record { counted = g .0; wide = g .1 .0; word-in = g .1 .1 .0 },
+    λ m. make-exactly 0 .1 (m .counted, (m .wide, (m .word-in, refl))),
+  )
+
+  -- where several apply, the lowest number is given
+  pub make-lowest : (j : ℕ) → List·Memᴰ (j when true) making → first making ≤ j
+  unfolding rising
+  make-lowest = lowest 0 making refl
+
+module _ (miscounted : Bool) (n : ℕ) (outlying damaged : Bool) where
+  abbrev stepping : List Row
+  stepping = stepRows miscounted n outlying damaged
+
+  pub step-exactly : (k : ℕ) → (first stepping ≡ k) ↔ Given k stepping
   unfolding numbered
-  taken = exactly (stepRows counts n sample state) refl
+  step-exactly = exactly stepping refl
 
-  pub taken-1 : (first (stepRows counts n sample state) ≡ 1) ↔ counts ≡ true
-  taken-1 = taken 1
+  pub step-1 : (first stepping ≡ 1) ↔ miscounted ≡ true
+  step-1 = step-exactly 1
 
-  pub taken-2 : (first (stepRows counts n sample state) ≡ 2) ↔ counts ≡ false and badWidth n ≡ true
-  taken-2 = taken 2
+  pub step-2 : (first stepping ≡ 2) ↔ miscounted ≡ false and badWidth n ≡ true
+  step-2 = step-exactly 2
 
-  pub taken-6 : (first (stepRows counts n sample state) ≡ 6) ↔ counts ≡ false and badWidth n ≡ false and sample ≡ true
-  taken-6 = taken 6
+  pub step-6 : (first stepping ≡ 6) ↔ miscounted ≡ false and badWidth n ≡ false and outlying ≡ true
+  step-6 = step-exactly 6
 
-  pub taken-7 : (first (stepRows counts n sample state) ≡ 7) ↔ counts ≡ false and badWidth n ≡ false and sample ≡ false and state ≡ true
-  taken-7 = taken 7
+  pub step-7 : (first stepping ≡ 7) ↔ miscounted ≡ false and badWidth n ≡ false and outlying ≡ false and damaged ≡ true
+  step-7 = step-exactly 7
 
-module _ (counts : Bool) (n word : ℕ) (long unequal sample : Bool) where
-  abbrev rows : List Row
-  rows = runRows counts n word long unequal sample
+  pub record Steps : Type 0 where
+    pub counted : miscounted ≡ false
+    pub wide : badWidth n ≡ false
+    pub sample-in : outlying ≡ false
+    pub sound : damaged ≡ false
 
-  pub ran : (k : ℕ) → (first rows ≡ k) ↔ Given k rows
+  pub step-0 : (first stepping ≡ 0) ↔ Steps
+  step-0 = (
+    λ e. let g = step-exactly 0 .0 e in record { counted = g .0; wide = g .1 .0; sample-in = g .1 .1 .0; sound = g .1 .1 .1 .0 },
+    λ m. step-exactly 0 .1 (m .counted, (m .wide, (m .sample-in, (m .sound, refl)))),
+  )
+
+  pub step-lowest : (j : ℕ) → List·Memᴰ (j when true) stepping → first stepping ≤ j
+  unfolding rising
+  step-lowest = lowest 0 stepping refl
+
+module _ (miscounted : Bool) (n word : ℕ) (long unequal outlying : Bool) where
+  abbrev running : List Row
+  running = runRows miscounted n word long unequal outlying
+
+  pub run-exactly : (k : ℕ) → (first running ≡ k) ↔ Given k running
   unfolding numbered
-  ran = exactly rows refl
+  run-exactly = exactly running refl
 
-  pub ran-1 : (first rows ≡ 1) ↔ counts ≡ true
-  ran-1 = ran 1
+  pub run-1 : (first running ≡ 1) ↔ miscounted ≡ true
+  run-1 = run-exactly 1
 
-  pub ran-2 : (first rows ≡ 2) ↔ counts ≡ false and badWidth n ≡ true
-  ran-2 = ran 2
+  pub run-2 : (first running ≡ 2) ↔ miscounted ≡ false and badWidth n ≡ true
+  run-2 = run-exactly 2
 
-  pub ran-3 : (first rows ≡ 3) ↔ counts ≡ false and badWidth n ≡ false and long ≡ true
-  ran-3 = ran 3
+  pub run-3 : (first running ≡ 3) ↔ miscounted ≡ false and badWidth n ≡ false and long ≡ true
+  run-3 = run-exactly 3
 
-  pub ran-4 : (first rows ≡ 4) ↔ counts ≡ false and badWidth n ≡ false and long ≡ false and unequal ≡ true
-  ran-4 = ran 4
+  pub run-4 : (first running ≡ 4) ↔ miscounted ≡ false and badWidth n ≡ false and long ≡ false and unequal ≡ true
+  run-4 = run-exactly 4
 
-  pub ran-5 : (first rows ≡ 5) ↔ counts ≡ false and badWidth n ≡ false and long ≡ false and unequal ≡ false and outside n word ≡ true
-  ran-5 = ran 5
+  pub run-5 : (first running ≡ 5) ↔ miscounted ≡ false and badWidth n ≡ false and long ≡ false and unequal ≡ false and outside n word ≡ true
+  run-5 = run-exactly 5
 
-  pub ran-6 : (first rows ≡ 6) ↔ counts ≡ false and badWidth n ≡ false and long ≡ false and unequal ≡ false and outside n word ≡ false and sample ≡ true
-  ran-6 = ran 6
+  pub run-6 : (first running ≡ 6) ↔ miscounted ≡ false and badWidth n ≡ false and long ≡ false and unequal ≡ false and outside n word ≡ false and outlying ≡ true
+  run-6 = run-exactly 6
 
--- the numbers of each table rise, so by `lowest` the number given is the lowest of those that apply
-pub make-rises : (counts : Bool) (n word : ℕ) → rising 0 (makeRows counts n word) ≡ true
-unfolding rising
-make-rises counts n word = refl
+  pub record Runs : Type 0 where
+    pub counted : miscounted ≡ false
+    pub wide : badWidth n ≡ false
+    pub short : long ≡ false
+    pub alike : unequal ≡ false
+    pub word-in : outside n word ≡ false
+    pub samples-in : outlying ≡ false
 
-pub step-rises : (counts : Bool) (n : ℕ) (sample state : Bool) → rising 0 (stepRows counts n sample state) ≡ true
-unfolding rising
-step-rises counts n sample state = refl
+  pub run-0 : (first running ≡ 0) ↔ Runs
+  run-0 = (
+    λ e.
+        let g = run-exactly 0 .0 e in
+        record { counted = g .0; wide = g .1 .0; short = g .1 .1 .0; alike = g .1 .1 .1 .0; word-in = g .1 .1 .1 .1 .0; samples-in = g .1 .1 .1 .1 .1 .0 },
+    λ m. run-exactly 0 .1 (m .counted, (m .wide, (m .short, (m .alike, (m .word-in, (m .samples-in, refl)))))),
+  )
 
-pub run-rises : (counts : Bool) (n word : ℕ) (long unequal sample : Bool) → rising 0 (runRows counts n word long unequal sample) ≡ true
-unfolding rising
-run-rises counts n word long unequal sample = refl
+  pub run-lowest : (j : ℕ) → List·Memᴰ (j when true) running → first running ≤ j
+  unfolding rising
+  run-lowest = lowest 0 running refl

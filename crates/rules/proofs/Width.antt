@@ -10,7 +10,7 @@ use lib.Bits.{bitOr, or-lt, or-add-and, and-le-l, and-le-r}
 use lib.Pow.{pow-pos, pow-mono, shr-lt}
 use lib.Dec.{ltb, eqb}
 use borrow.Author.Tests.{lt-ltb, le-ltb, ltb-true, ltb-false, eq-eqb, ne-eqb, not-false, not-true}
-use Rattle.rules.specs.Bits.{bit, Within}
+use Rattle.rules.specs.Bits.{Within}
 use Rattle.rules.specs.Limits.{outside}
 
 inside-lt : (n w : ℕ) → outside n w ≡ false → w < 2 ^ n

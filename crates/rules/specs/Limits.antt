@@ -23,6 +23,6 @@ differ a b = not (eqb a b)
 abbrev pub outside : ℕ → ℕ → Bool
 outside n w = not (ltb w (2 ^ n))
 
--- the word of a constructor that takes none
+-- the word of a constructor that takes none: zero, whatever the width
 abbrev pub defaultWord : ℕ → ℕ
 defaultWord n = 0

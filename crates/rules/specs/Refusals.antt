@@ -1,5 +1,5 @@
 -- Document 01's refusal numbers 1 to 7, as the three kinds of call of every voter have them. A voter hands in the tests
--- that are its own: `counts` is row 1's, made of its count N or of each of its counts.
+-- that are its own; `miscounted` is row 1's, made of its count N, or of each of its counts.
 use Prim.Native.Nat.{ℕ}
 use mathlib.Core.List.{List, [], _∷_}
 use mathlib.Core.Bool.{Bool}
@@ -8,28 +8,28 @@ use Rattle.rules.specs.Table.{Row, _when_}
 
 -- a constructor, from a width and an initial word
 abbrev pub makeRows : Bool → ℕ → ℕ → List Row
-makeRows counts n word =
-    1 when counts ∷
+makeRows miscounted n word =
+    1 when miscounted ∷
     2 when badWidth n ∷
     5 when outside n word ∷
     []
 
 -- a step: a word of its sample is outside the width; its state is not one that a step takes
 abbrev pub stepRows : Bool → ℕ → Bool → Bool → List Row
-stepRows counts n sample state =
-    1 when counts ∷
+stepRows miscounted n outlying damaged =
+    1 when miscounted ∷
     2 when badWidth n ∷
-    6 when sample ∷
-    7 when state ∷
+    6 when outlying ∷
+    7 when damaged ∷
     []
 
 -- a run: a trace is too long; the lent slices differ in length; some sample is outside the width
 abbrev pub runRows : Bool → ℕ → ℕ → Bool → Bool → Bool → List Row
-runRows counts n word long unequal sample =
-    1 when counts ∷
+runRows miscounted n word long unequal outlying =
+    1 when miscounted ∷
     2 when badWidth n ∷
     3 when long ∷
     4 when unequal ∷
     5 when outside n word ∷
-    6 when sample ∷
+    6 when outlying ∷
     []

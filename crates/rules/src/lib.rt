@@ -5,39 +5,47 @@ ghost use Rattle.rules.specs.Limits.{badCount, badWidth, outside, defaul
 ghost use Rattle.rules.specs.Table.{first, orElse};
 ghost use Rattle.rules.specs.Refusals.{makeRows, stepRows};
 
-pub const MAX_COUNT: u32 = 1000;
+// The limits: of a count N, of a width n, and of a trace's samples.
+pub struct Limits {}
 
-pub const MAX_WIDTH: u32 = 32;
+impl Limits {
+    pub const COUNT: u32 = 1000;
 
-pub const MAX_SAMPLES: usize = 2048;
+    pub const WIDTH: u32 = 32;
+
+    pub const SAMPLES: usize = 2048;
+}
 
 // 1: the count is 0 or above 1,000.
 pub fn bad_count(need: u32) -> bool
     ensures { λ r. ⌜ r ≡ badCount need ⌝ }
 {
-    (need == 0) | (need > MAX_COUNT)
+    (need == 0) | (need > Limits::COUNT)
 }
 
 // 2: the width is 0 or above 32.
 pub fn bad_width(n: u32) -> bool
     ensures { λ r. ⌜ r ≡ badWidth n ⌝ }
 {
-    (n == 0) | (n > MAX_WIDTH)
+    (n == 0) | (n > Limits::WIDTH)
 }
 
 // 5, 6, 7: the word has a bit at n or above.
 pub fn outside(n: u32, w: u32) -> bool
     ensures { λ r. ⌜ r ≡ outside n w ⌝ }
 {
-    if n >= MAX_WIDTH { false } else { w >> n != 0 }
+    if n >= Limits::WIDTH {
+        false
+    } else {
+        w >> n != 0
+    }
 }
 
-// The word of a constructor that takes none.
+// The word of a constructor that takes none: zero, whatever the width.
 pub fn default_word(n: u32) -> u32
     ensures { λ r. ⌜ r ≡ defaultWord n ⌝ }
 {
-    let word = 0;
-    word
+    0
 }
 
 // N-1, the greatest count: 0 of 0.
@@ -57,21 +65,21 @@ pub fn or_else(refusal: u32, number: u32, bad: bool) -> u32
     if bad { number } else { 0 }
 }
 
-// The table of every constructor.
-pub fn make_refusal(counts: bool, n: u32, word: u32) -> u32
-    ensures { λ r. ⌜ r ≡ first (makeRows counts n word) ⌝ }
+// The table of every constructor: a bad count, the width, the initial word.
+pub fn make_refusal(miscounted: bool, n: u32, word: u32) -> u32
+    ensures { λ r. ⌜ r ≡ first (makeRows miscounted n word) ⌝ }
 {
-    let r = or_else(0, 1, counts);
+    let r = or_else(0, 1, miscounted);
     let r = or_else(r, 2, bad_width(n));
     or_else(r, 5, outside(n, word))
 }
 
-// The table of every step.
-pub fn step_refusal(counts: bool, n: u32, sample: bool, state: bool) -> u32
-    ensures { λ r. ⌜ r ≡ first (stepRows counts n sample state) ⌝ }
+// The table of every step: a bad count, the width, a sample outside it, a state that no step takes.
+pub fn step_refusal(miscounted: bool, n: u32, outlying: bool, damaged: bool) -> u32
+    ensures { λ r. ⌜ r ≡ first (stepRows miscounted n outlying damaged) ⌝ }
 {
-    let r = or_else(0, 1, counts);
+    let r = or_else(0, 1, miscounted);
     let r = or_else(r, 2, bad_width(n));
-    let r = or_else(r, 6, sample);
-    or_else(r, 7, state)
+    let r = or_else(r, 6, outlying);
+    or_else(r, 7, damaged)
 }

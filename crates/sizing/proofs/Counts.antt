@@ -1,14 +1,13 @@
 -- The count is the least N with N·Tm > D; where nothing is refused, every product fits by far.
 use mathlib.Core.Path.{_≡_, refl}
-use mathlib.Core.Bool.{Bool, false, _||_}
+use mathlib.Core.Bool.{_||_}
 use Prim.Native.Nat.{ℕ, _+_, _*_, _/_, _<_, _≤_}
 use native.Mathlib.Nat.{div-lt-iff-lt-mul, mul-le-mul}
 use native.Mathlib.Omega.{arith}
 use lib.Dec.{ltb, eqb}
 use borrow.Author.Tests.{eqb-false, ltb-false}
-use Rattle.rules.specs.Limits.{badWidth}
 use Rattle.rules.specs.Table.{first, numbered}
-use Rattle.rules.proofs.Limits.{width-range}
+use Rattle.rules.proofs.Ranges.{width-range}
 use Rattle.rules.proofs.Tables.{exactly, or-neither}
 use Rattle.sizing.specs.Sizing.{badGaps, badDelay, countOf, sizeRows}
 

@@ -34,12 +34,10 @@ fn size_refusal(n: u32, least: u32, greatest: u32, delay: u32) -> u32
     let times = bad_gaps(least, greatest) | (delay > Sizing::MAX_DELAY);
     let r = rules::or_else(0, 2, rules::bad_width(n));
     let r = rules::or_else(r, 9, times);
-    rules::or_else(r, 10, count_of(least, delay) > Sizing::MAX_COUNT as u64)
+    rules::or_else(r, 10, count_of(least, delay) > rules::Limits::COUNT as u64)
 }
 
 impl Sizing {
-    pub const MAX_COUNT: u32 = rules::MAX_COUNT;
-
     pub const MAX_GAP: u32 = 1000000;
 
     pub const MAX_DELAY: u32 = 10000000;

@@ -6,8 +6,7 @@ use lib.Ieee.{Float}
 use Rattle.trace.specs.declared.RunAnswer.the-variants.{Done}
 use Rattle.confirm.specs.Confirm.{fresh}
 use Rattle.confirm.specs.Run.{steps, shownWord, shownMark, shownCount, answerOf}
-use Rattle.sizing.specs.Sizing.{sizingOf, notSized, sized}
-use Rattle.sizing.specs.declared.Sizing.{Sizing}
+use Rattle.sizing.specs.Sizing.{sizingOf, notSized}
 use Rattle.threshold.specs.Threshold.{thresholdOf}
 use Rattle.threshold.specs.declared.Threshold.the-variants.{Agreed, Alarm}
 

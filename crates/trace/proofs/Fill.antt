@@ -23,8 +23,8 @@ module _ {S X T : Type 0} (step : S → X → T) (next : T → S) (f : T → ℕ
       (length-set l i v ∙ e .0, rw (w, q, add-one, take-suc-set, append-assoc) (rw (drop-cons xs i d h) at (e .1)))
 
   -- the end: every sample has been passed
-  pub done : length xs ≤ i → Filled step next f s₀ xs l i s → l ≡ map f (trace step next s₀ xs)
+  pub filled : length xs ≤ i → Filled step next f s₀ xs l i s → l ≡ map f (trace step next s₀ xs)
   unfolding trace
-  done h e =
+  filled h e =
       let k : length l ≤ i = omega arith in
       simp (drop-of-length-le xs h, take-all i l k, append-nil) at (e .1)

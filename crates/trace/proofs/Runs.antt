@@ -1,22 +1,23 @@
 -- Every run's answer: what is known before a sample is read, the last row, and when each number is given.
 use mathlib.Core.Path.{_≡_, refl, sym, ap, _∙_}
 use mathlib.Core.Logic.{_↔_}
-use mathlib.Core.List.{List, _∷_, []}
-use mathlib.Core.Bool.{Bool, true, false, true≢false, false≢true}
+use mathlib.Core.List.{List}
+use mathlib.Core.Bool.{Bool, true, false, false≢true}
 use Prim.Native.Nat.{ℕ}
 use native.Mathlib.Omega.{arith}
 use lib.Dec.{eqb}
 use borrow.Author.Tests.{eqb-true, ne-eqb}
 use Rattle.rules.specs.Choose.{if_then_else_}
 use Rattle.rules.specs.Limits.{badWidth, outside}
-use Rattle.rules.specs.Table.{Row, _when_, first, answer, numbered, Given, orElse}
+use Rattle.rules.specs.Table.{Row, first, answer, Given, orElse}
 use Rattle.rules.specs.Refusals.{runRows}
 use Rattle.trace.specs.Samples.{firstWhere, somewhere, Smallest}
 use Rattle.trace.specs.Answers.{runNumber, runSample, notRun, runAnswer}
 use Rattle.trace.specs.declared.RunAnswer.{RunAnswer}
 use Rattle.trace.specs.declared.RunAnswer.the-variants.{Done, Refused}
 use Rattle.trace.proofs.Samples.{smallest}
-use Rattle.rules.proofs.Tables.{exactly, own-number}
+use Rattle.rules.proofs.Readings.{Runs, run-exactly, run-0}
+use Rattle.rules.proofs.Tables.{own-number}
 
 shown : (k s : ℕ) → runSample (answer k (notRun s) Done) ≡ (if eqb k 6 then s else 0)
 shown k s = go (eqb k 0) refl where
@@ -24,20 +25,19 @@ shown k s = go (eqb k 0) refl where
   go true q = let z = eqb-true k 0 q in simp (ne-eqb k 6 (λ e. omega arith))
   go false q = refl
 
-module _ (counts : Bool) (n word : ℕ) (long unequal : Bool) where
+module _ (miscounted : Bool) (n word : ℕ) (long unequal : Bool) where
   -- the number before a sample is read
   abbrev pub early : ℕ
-  early = first (runRows counts n word long unequal false)
+  early = first (runRows miscounted n word long unequal false)
 
   -- it is never 6
   not-six : early ≡ 6 → ⊥
-  unfolding numbered
-  not-six e = false≢true (exactly (runRows counts n word long unequal false) refl 6 .0 e .1 .1 .1 .1 .1)
+  not-six e = false≢true (run-exactly miscounted n word long unequal false 6 .0 e .1 .1 .1 .1 .1)
 
-  -- the last row counts where nothing is refused before it
-  late : (b : Bool) → first (runRows counts n word long unequal b) ≡ orElse early 6 b
+  -- the last row miscounted where nothing is refused before it
+  late : (b : Bool) → first (runRows miscounted n word long unequal b) ≡ orElse early 6 b
   unfolding first
-  late b = go counts (badWidth n) long unequal (outside n word)
+  late b = go miscounted (badWidth n) long unequal (outside n word)
     where
       go :
           (u v w x y : Bool)
@@ -52,10 +52,10 @@ module _ (counts : Bool) (n word : ℕ) (long unequal : Bool) where
 
   module _ {X : Type 0} (out : ℕ → X → Bool) (xs : List X) where
     abbrev rows : List Row
-    rows = runRows counts n word long unequal (somewhere (out n) xs)
+    rows = runRows miscounted n word long unequal (somewhere (out n) xs)
 
     abbrev answered : RunAnswer
-    answered = runAnswer out counts n word long unequal xs
+    answered = runAnswer out miscounted n word long unequal xs
 
     -- the three ways to answer, as code finds them
     pub refused-early : {r : ℕ} → r ≡ early → (r ≡ 0 → ⊥) → Refused r 0 ≡ answered
@@ -71,9 +71,9 @@ module _ (counts : Bool) (n word : ℕ) (long unequal : Bool) where
         let number : first rows ≡ 6 = late _ ∙ simp (e, h) in
         simp number
 
-    pub done : early ≡ 0 → somewhere (out n) xs ≡ false → Done ≡ answered
+    pub accepted : early ≡ 0 → somewhere (out n) xs ≡ false → Done ≡ answered
     unfolding runAnswer
-    done e h =
+    accepted e h =
         let number : first rows ≡ 0 = late _ ∙ simp (e, h) in
         simp number
 
@@ -82,9 +82,11 @@ module _ (counts : Bool) (n word : ℕ) (long unequal : Bool) where
     unfolding runAnswer
     run-number = own-number runNumber (first rows) (notRun (firstWhere (out n) xs)) Done (λ k. refl) refl
 
-    pub run-exactly : (k : ℕ) → (runNumber answered ≡ k) ↔ Given k rows
-    unfolding numbered
-    run-exactly k = rw run-number (exactly rows refl k)
+    pub answer-exactly : (k : ℕ) → (runNumber answered ≡ k) ↔ Given k rows
+    answer-exactly k = rw run-number (run-exactly miscounted n word long unequal (somewhere (out n) xs) k)
+
+    pub answer-done : answered ≡ Done → Runs miscounted n word long unequal (somewhere (out n) xs)
+    answer-done e = run-0 miscounted n word long unequal (somewhere (out n) xs) .0 (sym run-number ∙ ap runNumber e)
 
     -- 6 comes with the smallest sample, and any other number with 0
     run-sample : runSample answered ≡ (if eqb (runNumber answered) 6 then firstWhere (out n) xs else 0)
@@ -92,7 +94,7 @@ module _ (counts : Bool) (n word : ℕ) (long unequal : Bool) where
     run-sample = rw run-number (shown (first rows) (firstWhere (out n) xs))
 
     pub six-smallest : runNumber answered ≡ 6 → Smallest (out n) xs (runSample answered)
-    six-smallest e = rw (run-sample, e) (smallest (out n) xs (run-exactly 6 .0 e .1 .1 .1 .1 .1))
+    six-smallest e = rw (run-sample, e) (smallest (out n) xs (answer-exactly 6 .0 e .1 .1 .1 .1 .1))
 
     pub other-zero : (runNumber answered ≡ 6 → ⊥) → runSample answered ≡ 0
     other-zero h = rw (run-sample, ne-eqb (runNumber answered) 6 h)

@@ -25,8 +25,8 @@ notRun smallest number = Refused number (if eqb number 6 then smallest else 0)
 
 -- a run over samples of any kind, of which `out n` says that a word is outside the width
 unfoldable pub runAnswer : {X : Type 0} → (ℕ → X → Bool) → Bool → ℕ → ℕ → Bool → Bool → List X → RunAnswer
-runAnswer out counts n word long unequal samples =
-    answer (first (runRows counts n word long unequal (somewhere (out n) samples))) (notRun (firstWhere (out n) samples)) Done
+runAnswer out miscounted n word long unequal samples =
+    answer (first (runRows miscounted n word long unequal (somewhere (out n) samples))) (notRun (firstWhere (out n) samples)) Done
 
 -- a lent slice afterwards: as it came if the run is refused, and what the run writes if not
 abbrev pub after : RunAnswer → List ℕ → List ℕ → List ℕ

@@ -38,17 +38,17 @@ impl RunAnswer {
 }
 
 // The table of every run but for its last row: no sample has been read yet.
-fn run_refusal(counts: bool, n: u32, word: u32, long: bool, unequal: bool) -> u32
-    ensures { λ r. ⌜ r ≡ first (runRows counts n word long unequal false) ⌝ }
+fn run_refusal(miscounted: bool, n: u32, word: u32, long: bool, unequal: bool) -> u32
+    ensures { λ r. ⌜ r ≡ first (runRows miscounted n word long unequal false) ⌝ }
 {
-    let r = rules::or_else(0, 1, counts);
+    let r = rules::or_else(0, 1, miscounted);
     let r = rules::or_else(r, 2, rules::bad_width(n));
     let r = rules::or_else(r, 3, long);
     let r = rules::or_else(r, 4, unequal);
     rules::or_else(r, 5, rules::outside(n, word))
 }
 
-// Some sample is outside the width: then so is the OR of all, which wide code finds.
+// Some sample is outside the width exactly when the OR of all is, which wide code finds.
 fn some_outside(n: u32, samples: &[u32]) -> bool
     ensures { λ r. ⌜ r ≡ somewhere (outside n) (now (samples .entry)) ⌝ }
 {
@@ -77,11 +77,12 @@ fn first_outside(n: u32, samples: &[u32]) -> usize
 }
 
 // A run over one column. A trace that is refused by a lower number is not read.
-pub fn judge(counts: bool, n: u32, word: u32, samples: &[u32], unequal: bool) -> RunAnswer
-    ensures { λ r. ⌜ r ≡ runAnswer outside counts n word (tooLong (length (now (samples .entry)))) unequal (now (samples .entry)) ⌝ }
+pub fn judge(miscounted: bool, n: u32, word: u32, samples: &[u32], unequal: bool) -> RunAnswer
+    ensures { λ r. ⌜ r ≡ runAnswer outside miscounted n word (tooLong (length (now (samples .entry))))
+        unequal (now (samples .entry)) ⌝ }
 {
-    let long = samples.len() > rules::MAX_SAMPLES;
-    let refusal = run_refusal(counts, n, word, long, unequal);
+    let long = samples.len() > rules::Limits::SAMPLES;
+    let refusal = run_refusal(miscounted, n, word, long, unequal);
     if refusal != 0 {
         return RunAnswer::Refused {
             number: refusal,

@@ -1,13 +1,12 @@
 -- `confirm::run` meets its contract: a refused run leaves every slice, and where none is refused the lengths are alike.
-use mathlib.Core.Path.{_≡_, refl, sym, ap, _∙_}
+use mathlib.Core.Path.{_≡_, sym, _∙_}
 use mathlib.Core.Bool.{false, _||_}
 use Prim.Native.Nat.{ℕ}
 use borrow.Author.Needs.{needs}
 use Rattle.rules.specs.Limits.{differ, outside}
-use Rattle.rules.proofs.Limits.{same}
+use Rattle.rules.proofs.Ranges.{same}
 use Rattle.rules.proofs.Tables.{or-neither}
-use Rattle.trace.specs.Answers.{runNumber}
-use Rattle.trace.proofs.Runs.{run-exactly}
+use Rattle.trace.proofs.Runs.{answer-done}
 use Rattle.confirm.specs.Run.{answerOf, unequal}
 use Rattle.confirm.proofs.run.Statement.{statement}
 use Rattle.confirm.proofs.run.Tie as tie
@@ -24,7 +23,7 @@ returns c =
 -- where the run is not refused, every slice is as long as the trace
 alike : (c : tie.After-enum-told) → let a = c .before .before .before .before .before .before .before .before .args in
     unequal (a .samples .now) (a .words .now) (a .marks .now) (a .counts .now) ≡ false
-alike c = run-exactly _ _ _ _ _ outside _ 0 .0 (ap runNumber (sym (answered (c .before .before)) ∙ c .enum-told .given .1)) .1 .1 .1 .0
+alike c = answer-done _ _ _ _ _ outside _ (sym (answered (c .before .before)) ∙ c .enum-told .given .1) .alike
 
 three : (a b c d : ℕ) → differ a b || differ a c || differ a d ≡ false → (a ≡ b) × ((a ≡ c) × (a ≡ d))
 three a b c d e =
@@ -41,10 +40,10 @@ returns-2 c =
     let f = c .before .before .before .before .before .before .before .before .before .before in
     let ran = f .before .enum-told .given .1 in
     record {
-      answered = answered (f .before .before .before);
-      words-after = rw (ran, ← f .fresh .ensures) (wrote .ensures .0);
-      marks-after = rw (ran, ← f .fresh .ensures) (wrote .ensures .1 .0);
-      counts-after = rw (ran, ← f .fresh .ensures) (wrote .ensures .1 .1);
+      answered = sym ran ∙ answered (f .before .before .before);
+      words-after = rw (← f .fresh .ensures) (wrote .ensures .0);
+      marks-after = rw (← f .fresh .ensures) (wrote .ensures .1 .0);
+      counts-after = rw (← f .fresh .ensures) (wrote .ensures .1 .1);
     }
 
 pub run-spec : {M : Type 1} → statement M

@@ -4,7 +4,7 @@ use Prim.Native.Nat.{_-_, _≤_}
 use native.Mathlib.Omega.{arith}
 use borrow.Author.Needs.{needs}
 use lib.ListN.{length}
-use Rattle.trace.proofs.Fill.{Filled, turn, done}
+use Rattle.trace.proofs.Fill.{Filled, turn, filled}
 use Rattle.confirm.specs.Confirm.{clauses}
 use Rattle.confirm.specs.Run.{leaves, shownWord, shownMark, shownCount}
 use Rattle.confirm.proofs.write_steps.Statement.{statement}
@@ -37,7 +37,7 @@ returns : tie.Need-returns Inv-loop μ-loop
 returns c =
     let inv = c .before .loop .inv in
     let past = c .loop-test .left in
-    (done clauses leaves shownWord _ _ _ _ _ past (inv .1), (done clauses leaves shownMark _ _ _ _ _ past (inv .2), done clauses leaves shownCount _ _ _ _ _ past (inv .3)))
+    (filled clauses leaves shownWord _ _ _ _ _ past (inv .1), (filled clauses leaves shownMark _ _ _ _ _ past (inv .2), filled clauses leaves shownCount _ _ _ _ _ past (inv .3)))
 
 pub write-steps-spec : {M : Type 1} → statement M
 write-steps-spec =

@@ -1,5 +1,5 @@
 -- `trace::some_outside` meets its contract. The invariant: the OR so far is outside, or a sample to come is, exactly when some sample is.
-use mathlib.Core.Path.{_≡_, refl, sym, ap, _∙_}
+use mathlib.Core.Path.{_≡_, _∙_}
 use mathlib.Core.Bool.{_||_, or-false, or-assoc}
 use Prim.Native.Nat.{_-_, _≤_}
 use native.Mathlib.Omega.{arith}

@@ -1,10 +1,10 @@
 -- `Confirm::from_word` meets its contract: with a refusal the state of n 1, N 1 and word zero, without one the fresh state.
-use mathlib.Core.Path.{_≡_, ap, _∙_}
+use mathlib.Core.Path.{_≡_}
 use Rattle.rules.specs.Limits.{badCount}
 use Rattle.rules.specs.Table.{first}
 use Rattle.rules.specs.Refusals.{makeRows}
 use Rattle.rules.proofs.Tables.{refuses, works}
-use Rattle.confirm.specs.Confirm.{made, notMade, madeOf}
+use Rattle.confirm.specs.Confirm.{notMade, madeOf}
 use Rattle.confirm.proofs.Confirm.from_word.Statement.{statement}
 use Rattle.confirm.proofs.Confirm.from_word.Tie as tie
 

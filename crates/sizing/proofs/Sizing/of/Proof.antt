@@ -1,7 +1,6 @@
 -- `Sizing::of` meets its contract: with a refusal zeros, without one the definition's numbers, which fit by far.
-use mathlib.Core.Path.{_≡_, sym, _∙_}
+use mathlib.Core.Path.{sym, _∙_}
 use native.Mathlib.Omega.{arith}
-use borrow.Author.Needs.{needs}
 use Rattle.rules.proofs.Tables.{refuses, works}
 use Rattle.sizing.specs.Sizing.{notSized, sizingOf}
 use Rattle.sizing.proofs.Counts.{Sized, ranges, Room, room}

@@ -1,7 +1,6 @@
 -- `Readings::vote` meets its contract: a refusal, or the median, or an alarm, as the tests say.
-use mathlib.Core.Path.{sym, ap, _∙_}
+use mathlib.Core.Path.{sym, _∙_}
 use Rattle.rules.specs.Table.{first}
-use Rattle.threshold.specs.declared.Threshold.the-variants.{Agreed}
 use Rattle.threshold.specs.Threshold.{thresholdOf}
 use Rattle.threshold.proofs.Readings.vote.Statement.{statement}
 use Rattle.threshold.proofs.Readings.vote.Tie as tie

@@ -1,7 +1,7 @@
 -- `input::list` stays within the slice and ends.
 use Prim.Native.Nat.{_-_, _≤_}
 use mathlib.Core.Path.{_≡_}
-use lib.ListN.{length, length-set}
+use lib.ListN.{length}
 use borrow.Author.Needs.{needs}
 use Rattle.vectors.proofs.input.list.Statement.{statement}
 use Rattle.vectors.proofs.input.list.Tie as tie
