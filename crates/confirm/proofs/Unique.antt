@@ -5,8 +5,8 @@ use Prim.Native.Nat.{ℕ}
 use denote.Ref.{now}
 use contract.Lifetimes.{Lfts}
 use Rattle.rules.specs.Limits.{defaultWord}
-use Rattle.rules.specs.Promise.{Says, Determines}
-use Rattle.rules.proofs.Promise.{determined}
+use Rattle.rules.specs.Promise.{Fixes}
+use Rattle.rules.proofs.Promise.{fixes}
 use Rattle.trace.specs.Answers.{after}
 use Rattle.trace.specs.declared.RunAnswer.{RunAnswer}
 use Rattle.confirm.specs.Answers.{numberOf, wordOf, markOf}
@@ -22,47 +22,26 @@ use Rattle.confirm.proofs.Confirm.clauses.Reads as clauses
 use Rattle.confirm.proofs.Confirm.step.Reads as step
 use Rattle.confirm.proofs.run.Reads as run
 
-pub number-says : Says (number.Learnt tt) (λ z e. z) (λ a. numberOf (a .0))
-number-says a z e p = p
+pub number-unique : Fixes (number.Learnt tt) (λ z e. z) (λ a. numberOf (a .0))
+number-unique = fixes (λ a z e p. p)
 
-pub number-unique : Determines (number.Learnt tt) (λ z e. z)
-number-unique = determined number-says
+pub word-unique : Fixes (word.Learnt tt) (λ z e. z) (λ a. wordOf (a .0))
+word-unique = fixes (λ a z e p. p)
 
-pub word-says : Says (word.Learnt tt) (λ z e. z) (λ a. wordOf (a .0))
-word-says a z e p = p
+pub mark-unique : Fixes (mark.Learnt tt) (λ z e. z) (λ a. markOf (a .0))
+mark-unique = fixes (λ a z e p. p)
 
-pub word-unique : Determines (word.Learnt tt) (λ z e. z)
-word-unique = determined word-says
+pub from-word-unique : Fixes (from-word.Learnt tt) (λ z e. z) (λ a. madeOf (a .0) (a .1 .0) (a .1 .1 .0))
+from-word-unique = fixes (λ a z e p. p)
 
-pub mark-says : Says (mark.Learnt tt) (λ z e. z) (λ a. markOf (a .0))
-mark-says a z e p = p
+pub new-unique : Fixes (new.Learnt tt) (λ z e. z) (λ a. madeOf (a .0) (a .1 .0) (defaultWord (a .0)))
+new-unique = fixes (λ a z e p. p)
 
-pub mark-unique : Determines (mark.Learnt tt) (λ z e. z)
-mark-unique = determined mark-says
+pub clauses-unique : Fixes (clauses.Learnt tt) (λ z e. z) (λ a. Confirm.clauses (a .0) (a .1 .0))
+clauses-unique = fixes (λ a z e p. p)
 
-pub from-word-says : Says (from-word.Learnt tt) (λ z e. z) (λ a. madeOf (a .0) (a .1 .0) (a .1 .1 .0))
-from-word-says a z e p = p
-
-pub from-word-unique : Determines (from-word.Learnt tt) (λ z e. z)
-from-word-unique = determined from-word-says
-
-pub new-says : Says (new.Learnt tt) (λ z e. z) (λ a. madeOf (a .0) (a .1 .0) (defaultWord (a .0)))
-new-says a z e p = p
-
-pub new-unique : Determines (new.Learnt tt) (λ z e. z)
-new-unique = determined new-says
-
-pub clauses-says : Says (clauses.Learnt tt) (λ z e. z) (λ a. Confirm.clauses (a .0) (a .1 .0))
-clauses-says a z e p = p
-
-pub clauses-unique : Determines (clauses.Learnt tt) (λ z e. z)
-clauses-unique = determined clauses-says
-
-pub step-says : Says (step.Learnt tt) (λ z e. z) (λ a. stepOf (a .0) (a .1 .0))
-step-says a z e p = p
-
-pub step-unique : Determines (step.Learnt tt) (λ z e. z)
-step-unique = determined step-says
+pub step-unique : Fixes (step.Learnt tt) (λ z e. z) (λ a. stepOf (a .0) (a .1 .0))
+step-unique = fixes (λ a z e p. p)
 
 -- a run: its answer, and the words, marks and counts as it leaves them
 abbrev Seen : Type 0
@@ -74,15 +53,9 @@ ran n need w samples words marks counts =
     let taken = steps (fresh n need w) samples in
     (r, after r words (map shownWord taken), after r marks (map shownMark taken), after r counts (map shownCount taken))
 
-pub run-says :
-    (κs : Lfts 4)
-    → Says {O = Seen} (run.Learnt κs)
-    (λ z e. (z, now (e .1 .1 .1 .1 .0), now (e .1 .1 .1 .1 .1 .0), now (e .1 .1 .1 .1 .1 .1 .0)))
-    (λ a. ran (a .0) (a .1 .0) (a .1 .1 .0) (now (a .1 .1 .1 .0)) (now (a .1 .1 .1 .1 .0)) (now (a .1 .1 .1 .1 .1 .0)) (now (a .1 .1 .1 .1 .1 .1 .0)))
-run-says κs a z e p = cc
-
 pub run-unique :
     (κs : Lfts 4)
-    → Determines {O = Seen} (run.Learnt κs)
+    → Fixes {O = Seen} (run.Learnt κs)
     (λ z e. (z, now (e .1 .1 .1 .1 .0), now (e .1 .1 .1 .1 .1 .0), now (e .1 .1 .1 .1 .1 .1 .0)))
-run-unique κs = determined (run-says κs)
+    (λ a. ran (a .0) (a .1 .0) (a .1 .1 .0) (now (a .1 .1 .1 .0)) (now (a .1 .1 .1 .1 .0)) (now (a .1 .1 .1 .1 .1 .0)) (now (a .1 .1 .1 .1 .1 .1 .0)))
+run-unique κs = fixes (λ a z e p. cc)

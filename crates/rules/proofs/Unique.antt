@@ -4,8 +4,8 @@ use Rattle.rules.specs.Limits
 use Rattle.rules.specs.Limits.{badCount, badWidth, defaultWord}
 use Rattle.rules.specs.Table.{first, orElse}
 use Rattle.rules.specs.Refusals.{makeRows, stepRows}
-use Rattle.rules.specs.Promise.{Says, Determines}
-use Rattle.rules.proofs.Promise.{determined}
+use Rattle.rules.specs.Promise.{Fixes}
+use Rattle.rules.proofs.Promise.{fixes}
 use Rattle.rules.proofs.bad_count.Reads as bad-count
 use Rattle.rules.proofs.bad_width.Reads as bad-width
 use Rattle.rules.proofs.outside.Reads as outside
@@ -15,50 +15,26 @@ use Rattle.rules.proofs.or_else.Reads as or-else
 use Rattle.rules.proofs.make_refusal.Reads as make-refusal
 use Rattle.rules.proofs.step_refusal.Reads as step-refusal
 
-pub bad-count-says : Says (bad-count.Learnt tt) (λ z e. z) (λ a. badCount (a .0))
-bad-count-says a z e p = p
+pub bad-count-unique : Fixes (bad-count.Learnt tt) (λ z e. z) (λ a. badCount (a .0))
+bad-count-unique = fixes (λ a z e p. p)
 
-pub bad-count-unique : Determines (bad-count.Learnt tt) (λ z e. z)
-bad-count-unique = determined bad-count-says
+pub bad-width-unique : Fixes (bad-width.Learnt tt) (λ z e. z) (λ a. badWidth (a .0))
+bad-width-unique = fixes (λ a z e p. p)
 
-pub bad-width-says : Says (bad-width.Learnt tt) (λ z e. z) (λ a. badWidth (a .0))
-bad-width-says a z e p = p
+pub outside-unique : Fixes (outside.Learnt tt) (λ z e. z) (λ a. Limits.outside (a .0) (a .1 .0))
+outside-unique = fixes (λ a z e p. p)
 
-pub bad-width-unique : Determines (bad-width.Learnt tt) (λ z e. z)
-bad-width-unique = determined bad-width-says
+pub default-word-unique : Fixes (default-word.Learnt tt) (λ z e. z) (λ a. defaultWord (a .0))
+default-word-unique = fixes (λ a z e p. p)
 
-pub outside-says : Says (outside.Learnt tt) (λ z e. z) (λ a. Limits.outside (a .0) (a .1 .0))
-outside-says a z e p = p
+pub last-unique : Fixes (last.Learnt tt) (λ z e. z) (λ a. a .0 - 1)
+last-unique = fixes (λ a z e p. p)
 
-pub outside-unique : Determines (outside.Learnt tt) (λ z e. z)
-outside-unique = determined outside-says
+pub or-else-unique : Fixes (or-else.Learnt tt) (λ z e. z) (λ a. orElse (a .0) (a .1 .0) (a .1 .1 .0))
+or-else-unique = fixes (λ a z e p. p)
 
-pub default-word-says : Says (default-word.Learnt tt) (λ z e. z) (λ a. defaultWord (a .0))
-default-word-says a z e p = p
+pub make-refusal-unique : Fixes (make-refusal.Learnt tt) (λ z e. z) (λ a. first (makeRows (a .0) (a .1 .0) (a .1 .1 .0)))
+make-refusal-unique = fixes (λ a z e p. p)
 
-pub default-word-unique : Determines (default-word.Learnt tt) (λ z e. z)
-default-word-unique = determined default-word-says
-
-pub last-says : Says (last.Learnt tt) (λ z e. z) (λ a. a .0 - 1)
-last-says a z e p = p
-
-pub last-unique : Determines (last.Learnt tt) (λ z e. z)
-last-unique = determined last-says
-
-pub or-else-says : Says (or-else.Learnt tt) (λ z e. z) (λ a. orElse (a .0) (a .1 .0) (a .1 .1 .0))
-or-else-says a z e p = p
-
-pub or-else-unique : Determines (or-else.Learnt tt) (λ z e. z)
-or-else-unique = determined or-else-says
-
-pub make-refusal-says : Says (make-refusal.Learnt tt) (λ z e. z) (λ a. first (makeRows (a .0) (a .1 .0) (a .1 .1 .0)))
-make-refusal-says a z e p = p
-
-pub make-refusal-unique : Determines (make-refusal.Learnt tt) (λ z e. z)
-make-refusal-unique = determined make-refusal-says
-
-pub step-refusal-says : Says (step-refusal.Learnt tt) (λ z e. z) (λ a. first (stepRows (a .0) (a .1 .0) (a .1 .1 .0) (a .1 .1 .1 .0)))
-step-refusal-says a z e p = p
-
-pub step-refusal-unique : Determines (step-refusal.Learnt tt) (λ z e. z)
-step-refusal-unique = determined step-refusal-says
+pub step-refusal-unique : Fixes (step-refusal.Learnt tt) (λ z e. z) (λ a. first (stepRows (a .0) (a .1 .0) (a .1 .1 .0) (a .1 .1 .1 .0)))
+step-refusal-unique = fixes (λ a z e p. p)

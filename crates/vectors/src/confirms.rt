@@ -1,9 +1,10 @@
 // The calls of confirmation.
-use crate::input;
-use crate::output;
-use crate::room;
+use crate::runs;
 use confirm::Confirm;
 use confirm::ConfirmMade;
+use lines::input;
+use lines::output;
+use lines::room;
 
 // STATE: n, N, previous input, previous output, count.
 fn read_state() -> Confirm {
@@ -71,7 +72,7 @@ fn run_on(
     counts: &mut [u32],
 ) {
     let answer = confirm::run(n, need, word, samples, words, marks, counts);
-    output::ran(answer);
+    runs::print_answer(answer);
     output::slice(words);
     output::bytes(marks);
     output::slice(counts);

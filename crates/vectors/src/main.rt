@@ -1,17 +1,18 @@
 // Reads calls from standard input, one a line, makes each on the library, and prints its answer, with every state and lent
 // slice, as one line. The calls and the answers that are expected come from second/, whose page says how a line is written.
 mod confirms;
-mod input;
-mod output;
-mod room;
+mod runs;
+mod sizings;
+mod thresholds;
 
 // More lines than any input has, so that the program ends.
 const MOST_CALLS: u32 = 1000000;
 
 // One line; false at the end of the input, or at a call that no room here has.
 fn answer_call(name: &mut [u8]) -> bool {
-    let len = input::name(name);
-    confirms::answer(&name[..len])
+    let len = lines::input::name(name);
+    let called = &name[..len];
+    confirms::answer(called) || sizings::answer(called) || thresholds::answer(called)
 }
 
 fn main() {

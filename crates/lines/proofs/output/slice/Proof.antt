@@ -2,8 +2,8 @@
 use Prim.Native.Nat.{_-_, _≤_}
 use lib.ListN.{length}
 use borrow.Author.Needs.{needs}
-use Rattle.vectors.proofs.output.slice.Statement.{statement}
-use Rattle.vectors.proofs.output.slice.Tie as tie
+use Rattle.lines.proofs.output.slice.Statement.{statement}
+use Rattle.lines.proofs.output.slice.Tie as tie
 
 abbrev Inv-loop : tie.InvT-loop
 Inv-loop s at₀ t5 at = at ≤ length s

@@ -4,8 +4,8 @@ use mathlib.Core.Path.{_≡_}
 use lib.ListN.{length, length-set}
 use native.Mathlib.Omega.{arith}
 use borrow.Author.Needs.{needs}
-use Rattle.vectors.proofs.input.put_run.Statement.{statement}
-use Rattle.vectors.proofs.input.put_run.Tie as tie
+use Rattle.lines.proofs.input.put_run.Statement.{statement}
+use Rattle.lines.proofs.input.put_run.Tie as tie
 
 abbrev Inv-loop : tie.InvT-loop
 Inv-loop into₀ at value times next₀ left₀ into next left = (at ≤ next) × (next ≤ length into) × (length into ≡ length into₀)

@@ -4,8 +4,8 @@ use mathlib.Core.Path.{_≡_}
 use lib.ListN.{length, length-set}
 use native.Mathlib.Omega.{arith}
 use borrow.Author.Needs.{needs}
-use Rattle.vectors.proofs.output.widen_to.Statement.{statement}
-use Rattle.vectors.proofs.output.widen_to.Tie as tie
+use Rattle.lines.proofs.output.widen_to.Statement.{statement}
+use Rattle.lines.proofs.output.widen_to.Tie as tie
 
 abbrev Inv-loop : tie.InvT-loop
 Inv-loop s wide₀ at₀ wide at = (at ≤ length s) × (length wide ≡ length wide₀)

@@ -3,7 +3,6 @@ ghost use Prim.Native.Nat.{_<_, _≤_};
 ghost use lib.ListN.{length};
 use crate::input;
 use crate::room;
-use trace::RunAnswer;
 
 const OUT: i32 = 1;
 
@@ -11,19 +10,13 @@ pub fn first(n: u32) {
     io::print_decimal(OUT, n as u64);
 }
 
-fn next_wide(n: u64) {
+pub fn next_wide(n: u64) {
     io::write_all(OUT, b" ");
     io::print_decimal(OUT, n);
 }
 
 pub fn next(n: u32) {
     next_wide(n as u64);
-}
-
-// What every run answers.
-pub fn ran(answer: RunAnswer) {
-    first(answer.number());
-    next(answer.sample());
 }
 
 pub fn end_line() {

@@ -4,8 +4,8 @@ use mathlib.Core.Path.{_≡_}
 use lib.ListN.{length, length-set}
 use native.Mathlib.Omega.{arith}
 use borrow.Author.Needs.{needs}
-use Rattle.vectors.proofs.input.lent_bytes.Statement.{statement}
-use Rattle.vectors.proofs.input.lent_bytes.Tie as tie
+use Rattle.lines.proofs.input.lent_bytes.Statement.{statement}
+use Rattle.lines.proofs.input.lent_bytes.Tie as tie
 
 abbrev Inv-loop : tie.InvT-loop
 Inv-loop into₀ len fill at₀ into at = (at ≤ len) × (len ≤ length into) × (length into ≡ length into₀)

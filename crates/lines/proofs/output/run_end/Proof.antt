@@ -2,8 +2,8 @@
 use Prim.Native.Nat.{_-_, _≤_, _<_}
 use lib.ListN.{length}
 use borrow.Author.Needs.{needs}
-use Rattle.vectors.proofs.output.run_end.Statement.{statement}
-use Rattle.vectors.proofs.output.run_end.Tie as tie
+use Rattle.lines.proofs.output.run_end.Statement.{statement}
+use Rattle.lines.proofs.output.run_end.Tie as tie
 
 abbrev Inv-loop : tie.InvT-loop
 Inv-loop s from value at₀ at = (from < at) × (at ≤ length s)

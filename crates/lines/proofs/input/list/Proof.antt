@@ -3,8 +3,8 @@ use Prim.Native.Nat.{_-_, _≤_}
 use mathlib.Core.Path.{_≡_}
 use lib.ListN.{length}
 use borrow.Author.Needs.{needs}
-use Rattle.vectors.proofs.input.list.Statement.{statement}
-use Rattle.vectors.proofs.input.list.Tie as tie
+use Rattle.lines.proofs.input.list.Statement.{statement}
+use Rattle.lines.proofs.input.list.Tie as tie
 
 abbrev Inv-loop : tie.InvT-loop
 Inv-loop into₀ count at₀ tokens₀ into at tokens = (at ≤ length into) × (length into ≡ length into₀)

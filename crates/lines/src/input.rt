@@ -13,7 +13,9 @@ struct Token {
 }
 
 // A byte as a number: a cast of an element would ask for its range.
-pub fn wide(b: u8) -> u32 {
+pub fn wide(b: u8) -> u32
+    ensures { λ r. ⌜ r ≡ b ⌝ }
+{
     b as u32
 }
 
@@ -57,7 +59,10 @@ fn read_token() -> Token {
         value = std::num::wrapping_add_u64(tens, (b % 48) as u64);
         digits += 1;
     }
-    Token { value, after: END }
+    Token {
+        value,
+        after: byte(),
+    }
 }
 
 fn narrow(value: u64) -> u32 {
@@ -65,7 +70,11 @@ fn narrow(value: u64) -> u32 {
 }
 
 pub fn number() -> u32 {
-    narrow(read_token().value)
+    narrow(wide_number())
+}
+
+pub fn wide_number() -> u64 {
+    read_token().value
 }
 
 // Stores a value at some places from `at` on, as far as there is room; the next place.
