@@ -1,5 +1,7 @@
 pub mod Columns
 pub mod Fill
+pub mod FillPairs
+pub mod Pairs
 pub mod Runs
 pub mod Samples
 pub mod Steps

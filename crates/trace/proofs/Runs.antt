@@ -5,6 +5,7 @@ use mathlib.Core.List.{List}
 use mathlib.Core.Bool.{Bool, true, false, false≢true}
 use Prim.Native.Nat.{ℕ}
 use native.Mathlib.Omega.{arith}
+use lib.ListN.{length}
 use lib.Dec.{eqb}
 use borrow.Author.Tests.{eqb-true, ne-eqb}
 use Rattle.rules.specs.Choose.{if_then_else_}
@@ -12,7 +13,7 @@ use Rattle.rules.specs.Limits.{badWidth, outside}
 use Rattle.rules.specs.Table.{Row, first, answer, Given, orElse}
 use Rattle.rules.specs.Refusals.{runRows}
 use Rattle.trace.specs.Samples.{firstWhere, somewhere, Smallest}
-use Rattle.trace.specs.Answers.{runNumber, runSample, notRun, runAnswer}
+use Rattle.trace.specs.Answers.{runNumber, runSample, notRun, runAnswer, sampledOf}
 use Rattle.trace.specs.declared.RunAnswer.{RunAnswer}
 use Rattle.trace.specs.declared.RunAnswer.the-variants.{Done, Refused}
 use Rattle.trace.proofs.Samples.{smallest}
@@ -57,7 +58,7 @@ module _ (miscounted : Bool) (n word : ℕ) (long unequal : Bool) where
     abbrev answered : RunAnswer
     answered = runAnswer out miscounted n word long unequal xs
 
-    -- the three ways to answer, as code finds them
+    -- the two ways to answer, as code finds them
     pub refused-early : {r : ℕ} → r ≡ early → (r ≡ 0 → ⊥) → Refused r 0 ≡ answered
     unfolding runAnswer
     refused-early {r} e h =
@@ -65,17 +66,12 @@ module _ (miscounted : Bool) (n word : ℕ) (long unequal : Bool) where
         let number : first rows ≡ r = late _ ∙ simp (← e, some) in
         simp (number, some, ne-eqb r 6 (λ q. not-six (sym e ∙ q)))
 
-    pub refused-late : early ≡ 0 → somewhere (out n) xs ≡ true → Refused 6 (firstWhere (out n) xs) ≡ answered
+    pub sampled : {k m : ℕ} → early ≡ 0 → k ≡ firstWhere (out n) xs → m ≡ length xs → sampledOf k m ≡ answered
     unfolding runAnswer
-    refused-late e h =
-        let number : first rows ≡ 6 = late _ ∙ simp (e, h) in
-        simp number
-
-    pub accepted : early ≡ 0 → somewhere (out n) xs ≡ false → Done ≡ answered
-    unfolding runAnswer
-    accepted e h =
-        let number : first rows ≡ 0 = late _ ∙ simp (e, h) in
-        simp number
+    sampled e h l = rw (h, l) (go (somewhere (out n) xs) refl) where
+      go : (b : Bool) → somewhere (out n) xs ≡ b → (if b then Refused 6 (firstWhere (out n) xs) else Done) ≡ answered
+      go true q = let number : first rows ≡ 6 = late _ ∙ simp (e, q) in simp number
+      go false q = let number : first rows ≡ 0 = late _ ∙ simp (e, q) in simp number
 
     -- each number is given exactly when the table says so
     pub run-number : runNumber answered ≡ first rows

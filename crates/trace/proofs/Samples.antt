@@ -70,6 +70,18 @@ module _ {X : Type 0} (test : X → Bool) where
   pub nowhere : (xs : List X) (d : X) → somewhere test xs ≡ false → (i : ℕ) → i < length xs → test (getD xs i d) ≡ false
   nowhere xs d e i h = none-before xs d i (omega (arith, ltb-false (firstWhere test xs) (length xs) e))
 
+  -- where none is marked, the number found is that of all samples
+  at-most : (xs : List X) → firstWhere test xs ≤ length xs
+  unfolding firstWhere
+  at-most [] = omega arith
+  at-most (x ∷ xs) = go (test x) (at-most xs) where
+    go : (b : Bool) → firstWhere test xs ≤ length xs → (if b then 0 else suc (firstWhere test xs)) ≤ suc (length xs)
+    go true h = omega arith
+    go false h = omega arith
+
+  pub all-passed : (xs : List X) → somewhere test xs ≡ false → length xs ≡ firstWhere test xs
+  all-passed xs e = omega (arith, at-most xs, ltb-false (firstWhere test xs) (length xs) e)
+
 -- samples of two columns: the first that either test marks is the smaller of the two numbers
 pub either :
     {X Y : Type 0} (p : X → Bool) (q : Y → Bool) (xs : List X) (ys : List Y) → length xs ≡ length ys

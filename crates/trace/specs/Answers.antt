@@ -1,12 +1,14 @@
 -- A run's answer and what it leaves in a lent slice, for every voter.
 use Prim.Native.Nat.{ℕ}
-use mathlib.Core.List.{List}
-use mathlib.Core.Bool.{Bool}
-use lib.Dec.{eqb}
+use mathlib.Core.List.{List, zip}
+use mathlib.Core.Bool.{Bool, _||_}
+use lib.ListN.{length}
+use lib.Dec.{ltb, eqb}
 use Rattle.rules.specs.Choose.{if_then_else_}
+use Rattle.rules.specs.Limits.{tooLong, differ}
 use Rattle.rules.specs.Table.{first, answer}
 use Rattle.rules.specs.Refusals.{runRows}
-use Rattle.trace.specs.Samples.{firstWhere, somewhere}
+use Rattle.trace.specs.Samples.{firstWhere, somewhere, outsidePair, outsideFour}
 use Rattle.trace.specs.declared.RunAnswer.{RunAnswer}
 use Rattle.trace.specs.declared.RunAnswer.the-variants.{Done, Refused}
 
@@ -27,6 +29,25 @@ notRun smallest number = Refused number (if eqb number 6 then smallest else 0)
 unfoldable pub runAnswer : {X : Type 0} → (ℕ → X → Bool) → Bool → ℕ → ℕ → Bool → Bool → List X → RunAnswer
 runAnswer out miscounted n word long unequal samples =
     answer (first (runRows miscounted n word long unequal (somewhere (out n) samples))) (notRun (firstWhere (out n) samples)) Done
+
+-- the part that the samples decide, where nothing else is refused
+abbrev pub sampledOf : ℕ → ℕ → RunAnswer
+sampledOf smallest samples = if ltb smallest samples then Refused 6 smallest else Done
+
+-- runs over the columns of two units, and of two pairs: any of them may be too long, or another than the first in length
+abbrev pub pairAnswer : Bool → ℕ → ℕ → List ℕ → List ℕ → Bool → RunAnswer
+pairAnswer miscounted n word a b unequal =
+    runAnswer outsidePair miscounted n word
+    (tooLong (length a) || tooLong (length b))
+    (differ (length a) (length b) || unequal)
+    (zip a b)
+
+abbrev pub fourAnswer : Bool → ℕ → ℕ → List ℕ → List ℕ → List ℕ → List ℕ → Bool → RunAnswer
+fourAnswer miscounted n word a b c d unequal =
+    runAnswer outsideFour miscounted n word
+    (tooLong (length a) || tooLong (length b) || tooLong (length c) || tooLong (length d))
+    (differ (length a) (length b) || differ (length a) (length c) || differ (length a) (length d) || unequal)
+    (zip (zip a b) (zip c d))
 
 -- a lent slice afterwards: as it came if the run is refused, and what the run writes if not
 abbrev pub after : RunAnswer → List ℕ → List ℕ → List ℕ

@@ -2,12 +2,13 @@
 // state, sample and answer, stands in specs/; the laws by which a loop that fills lent slices is shown to be one, in proofs/.
 ghost use mathlib.Core.Path.{_≡_};
 ghost use mathlib.Core.Bool.{false};
+ghost use Prim.Native.Nat.{_≤_, min};
 ghost use lib.ListN.{length};
 ghost use Rattle.rules.specs.Limits.{tooLong, outside};
 ghost use Rattle.rules.specs.Table.{first};
 ghost use Rattle.rules.specs.Refusals.{runRows};
 ghost use Rattle.trace.specs.Samples.{firstWhere, somewhere};
-ghost use Rattle.trace.specs.Answers.{runNumber, runSample, runAnswer};
+ghost use Rattle.trace.specs.Answers.{runNumber, runSample, runAnswer, sampledOf, pairAnswer, fourAnswer};
 
 // The answer of every run. The sample number is 0 except with 6.
 pub enum RunAnswer {
@@ -76,6 +77,42 @@ fn first_outside(n: u32, samples: &[u32]) -> usize
     i
 }
 
+// The same, searched only where the OR of all samples says that there is one.
+fn outsider(n: u32, samples: &[u32]) -> usize
+    ensures { λ r. ⌜ r ≡ firstWhere (outside n) (now (samples .entry)) ⌝ }
+{
+    if some_outside(n, samples) {
+        return first_outside(n, samples);
+    }
+    samples.len()
+}
+
+fn least(a: usize, b: usize) -> usize
+    ensures { λ r. ⌜ r ≡ min a b ⌝ }
+{
+    if a < b { a } else { b }
+}
+
+// The last row of a run's table: a sample outside the width, if there is one before the end of the trace.
+fn sampled(outsider: usize, samples: usize) -> RunAnswer
+    requires { ⌜ samples ≤ 2048 ⌝ }
+    ensures { λ r. ⌜ r ≡ sampledOf outsider samples ⌝ }
+{
+    if outsider < samples {
+        return RunAnswer::Refused {
+            number: 6,
+            sample: outsider as u32,
+        };
+    }
+    RunAnswer::Done
+}
+
+fn refused(number: u32) -> RunAnswer
+    ensures { λ r. ⌜ r ≡ RunAnswer.Refused number 0 ⌝ }
+{
+    RunAnswer::Refused { number, sample: 0 }
+}
+
 // A run over one column. A trace that is refused by a lower number is not read.
 pub fn judge(miscounted: bool, n: u32, word: u32, samples: &[u32], unequal: bool) -> RunAnswer
     ensures { λ r. ⌜ r ≡ runAnswer outside miscounted n word (tooLong (length (now (samples .entry))))
@@ -84,15 +121,54 @@ pub fn judge(miscounted: bool, n: u32, word: u32, samples: &[u32], unequal: bool
     let long = samples.len() > rules::Limits::SAMPLES;
     let refusal = run_refusal(miscounted, n, word, long, unequal);
     if refusal != 0 {
-        return RunAnswer::Refused {
-            number: refusal,
-            sample: 0,
-        };
+        return refused(refusal);
     }
-    let found = some_outside(n, samples);
-    if found {
-        let sample = first_outside(n, samples) as u32;
-        return RunAnswer::Refused { number: 6, sample };
+    sampled(outsider(n, samples), samples.len())
+}
+
+// A run over two columns, whose lengths are compared here.
+pub fn judge_pair(
+    miscounted: bool,
+    n: u32,
+    word: u32,
+    a: &[u32],
+    b: &[u32],
+    unequal: bool,
+) -> RunAnswer
+    ensures { λ r. ⌜ r ≡ pairAnswer miscounted n word (now (a .entry)) (now (b .entry)) unequal ⌝ }
+{
+    let long = (a.len() > rules::Limits::SAMPLES) | (b.len() > rules::Limits::SAMPLES);
+    let apart = (a.len() != b.len()) | unequal;
+    let refusal = run_refusal(miscounted, n, word, long, apart);
+    if refusal != 0 {
+        return refused(refusal);
     }
-    RunAnswer::Done
+    sampled(least(outsider(n, a), outsider(n, b)), a.len())
+}
+
+// A run over four columns, two pairs, whose lengths are compared here.
+pub fn judge_four(
+    miscounted: bool,
+    n: u32,
+    word: u32,
+    a: &[u32],
+    b: &[u32],
+    c: &[u32],
+    d: &[u32],
+    unequal: bool,
+) -> RunAnswer
+    ensures { λ r. ⌜ r ≡ fourAnswer miscounted n word (now (a .entry)) (now (b .entry)) (now (c .entry)) (now (d .entry)) unequal ⌝ }
+{
+    let long = (a.len() > rules::Limits::SAMPLES)
+        | (b.len() > rules::Limits::SAMPLES)
+        | (c.len() > rules::Limits::SAMPLES)
+        | (d.len() > rules::Limits::SAMPLES);
+    let apart = (a.len() != b.len()) | (a.len() != c.len()) | (a.len() != d.len()) | unequal;
+    let refusal = run_refusal(miscounted, n, word, long, apart);
+    if refusal != 0 {
+        return refused(refusal);
+    }
+    let first = least(outsider(n, a), outsider(n, b));
+    let second = least(outsider(n, c), outsider(n, d));
+    sampled(least(first, second), a.len())
 }

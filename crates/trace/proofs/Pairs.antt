@@ -1,0 +1,70 @@
+-- Runs over two columns and over four: what is known where nothing is refused before the samples, and what the samples decide.
+use mathlib.Core.Path.{_≡_, sym, ap₂, _∙_}
+use mathlib.Core.List.{List, zip}
+use mathlib.Core.Bool.{Bool, false, _||_}
+use Prim.Native.Nat.{ℕ, _≤_, min}
+use native.Mathlib.Omega.{arith}
+use lib.ListN.{length}
+use borrow.Author.Tests.{ltb-false}
+use Rattle.rules.specs.Limits.{tooLong, differ, outside}
+use Rattle.rules.proofs.Ranges.{same}
+use Rattle.rules.proofs.Readings.{run-0}
+use Rattle.rules.proofs.Tables.{or-neither}
+use Rattle.trace.specs.Samples.{firstWhere, outsidePair, outsideFour}
+use Rattle.trace.specs.Answers.{sampledOf, pairAnswer, fourAnswer}
+use Rattle.trace.proofs.Columns.{zip-length, four-length}
+use Rattle.trace.proofs.Runs.{early, sampled}
+use Rattle.trace.proofs.Samples.{either}
+
+module _ (n : ℕ) (a b : List ℕ) where
+  abbrev pub smallest : ℕ
+  smallest = min (firstWhere (outside n) a) (firstWhere (outside n) b)
+
+  pair-first : length a ≡ length b → smallest ≡ firstWhere (outsidePair n) (zip a b)
+  pair-first e = sym (either (outside n) (outside n) a b e)
+
+module _ (miscounted : Bool) (n word : ℕ) (a b : List ℕ) (unequal : Bool) where
+  abbrev pairLong : Bool
+  pairLong = tooLong (length a) || tooLong (length b)
+
+  abbrev pairApart : Bool
+  pairApart = differ (length a) (length b) || unequal
+
+  module _ (none : early miscounted n word pairLong pairApart ≡ 0) where
+    pair-alike : length a ≡ length b
+    pair-alike = same _ _ (or-neither (differ (length a) (length b)) unequal (run-0 miscounted n word pairLong pairApart false .0 none .alike) .0)
+
+    pub pair-few : length a ≤ 2048
+    pair-few = ltb-false 2048 (length a) (or-neither (tooLong (length a)) (tooLong (length b)) (run-0 miscounted n word pairLong pairApart false .0 none .short) .0)
+
+    pub pair-sampled : sampledOf (smallest n a b) (length a) ≡ pairAnswer miscounted n word a b unequal
+    pair-sampled = sampled miscounted n word pairLong pairApart outsidePair (zip a b) none (pair-first n a b pair-alike) (sym (zip-length a b pair-alike))
+
+module _ (miscounted : Bool) (n word : ℕ) (a b c d : List ℕ) (unequal : Bool) where
+  abbrev fourLong : Bool
+  fourLong = tooLong (length a) || tooLong (length b) || tooLong (length c) || tooLong (length d)
+
+  abbrev fourApart : Bool
+  fourApart = differ (length a) (length b) || differ (length a) (length c) || differ (length a) (length d) || unequal
+
+  module _ (none : early miscounted n word fourLong fourApart ≡ 0) where
+    four-alike : (length a ≡ length b) × (length a ≡ length c) × (length a ≡ length d)
+    four-alike =
+        let p = or-neither (differ (length a) (length b) || differ (length a) (length c) || differ (length a) (length d)) unequal (run-0 miscounted n word fourLong fourApart false .0 none .alike) in
+        let q = or-neither (differ (length a) (length b) || differ (length a) (length c)) (differ (length a) (length d)) (p .0) in
+        let r = or-neither (differ (length a) (length b)) (differ (length a) (length c)) (q .0) in
+        (same _ _ (r .0), same _ _ (r .1), same _ _ (q .1))
+
+    pub four-few : length a ≤ 2048
+    four-few =
+        let p = or-neither (tooLong (length a) || tooLong (length b) || tooLong (length c)) (tooLong (length d)) (run-0 miscounted n word fourLong fourApart false .0 none .short) in
+        let q = or-neither (tooLong (length a) || tooLong (length b)) (tooLong (length c)) (p .0) in
+        ltb-false 2048 (length a) (or-neither (tooLong (length a)) (tooLong (length b)) (q .0) .0)
+
+    pub four-sampled : sampledOf (min (smallest n a b) (smallest n c d)) (length a) ≡ fourAnswer miscounted n word a b c d unequal
+    four-sampled =
+        let ab = four-alike .0 in
+        let cd : length c ≡ length d = omega (arith, four-alike) in
+        let pairs : length (zip a b) ≡ length (zip c d) = omega (arith, four-alike, zip-length a b ab, zip-length c d cd) in
+        let found = ap₂ min (pair-first n a b ab) (pair-first n c d cd) ∙ sym (either (outsidePair n) (outsidePair n) (zip a b) (zip c d) pairs) in
+        sampled miscounted n word fourLong fourApart outsideFour (zip (zip a b) (zip c d)) none found (sym (four-length a b c d ab (four-alike .1) (four-alike .2)))

@@ -1,0 +1,58 @@
+-- Each number of each call is given exactly when its table says so; `Readings` of rules reads the tables out, number by number.
+use mathlib.Core.Path.{_≡_, refl}
+use mathlib.Core.Logic.{_↔_}
+use mathlib.Core.List.{List, zip}
+use mathlib.Core.Bool.{Bool, true, false, _||_}
+use Prim.Native.Nat.{ℕ, _+_, _-_}
+use lib.ListN.{length}
+use lib.Dec.{ltb, eqb}
+use Rattle.rules.specs.Choose.{if_then_else_}
+use Rattle.rules.specs.Limits.{badCount, tooLong, differ}
+use Rattle.rules.specs.Table.{first, Given, numbered}
+use Rattle.rules.specs.Refusals.{makeRows, runRows}
+use Rattle.rules.proofs.Tables.{exactly-when}
+use Rattle.trace.specs.Samples.{somewhere, Smallest, outsidePair}
+use Rattle.trace.specs.Answers.{runNumber, runSample, runAnswer}
+use Rattle.trace.specs.declared.RunAnswer.{RunAnswer}
+use Rattle.trace.specs.declared.RunAnswer.the-variants.{Done}
+use Rattle.trace.proofs.Runs as runs
+use Rattle.vote.specs.declared.Vote.{Vote}
+use Rattle.vote.specs.declared.VoteMade.{VoteMade}
+use Rattle.vote.specs.declared.VoteStep.{VoteStep}
+use Rattle.vote.specs.Answers.{numberOf}
+use Rattle.vote.specs.Vote.{agreed, held, alarm, clauses, made, notMade, madeOf, rowsOf, notTaken, stepOf}
+use Rattle.vote.specs.Run.{unequal, answerOf}
+
+pub from-word-exactly : (n need word k : ℕ) → (madeOf n need word .refusal ≡ k) ↔ Given k (makeRows (badCount need) n word)
+unfolding madeOf numbered
+from-word-exactly n need word = exactly-when (λ (m : VoteMade). m .refusal) (makeRows (badCount need) n word) notMade (made n need word) refl (λ k. refl) refl
+
+-- the clauses refuse nothing
+pub none-refused : (s : Vote) (a b : ℕ) (reset : Bool) → numberOf (clauses s a b reset .answer) ≡ 0
+unfolding clauses
+none-refused s a b reset = go (eqb a b) reset (ltb (s .count) (s .need - 1)) where
+  go : (p q r : Bool) → numberOf ((if p then agreed s a else if q then held s 0 else if r then held s (s .count + 1) else alarm s) .answer) ≡ 0
+  go true q r = refl
+  go false true r = refl
+  go false false true = refl
+  go false false false = refl
+
+pub step-exactly : (s : Vote) (a b : ℕ) (reset : Bool) (k : ℕ) → (numberOf (stepOf s a b reset .answer) ≡ k) ↔ Given k (rowsOf s a b)
+unfolding stepOf numbered
+step-exactly s a b reset = exactly-when (λ (t : VoteStep). numberOf (t .answer)) (rowsOf s a b) (notTaken s) (clauses s a b reset) refl (λ k. refl) (none-refused s a b reset)
+
+module _ (n need word : ℕ) (a b words marks : List ℕ) where
+  abbrev answered : RunAnswer
+  answered = answerOf n need word a b words marks
+
+  pub run-exactly :
+      (k : ℕ) → (runNumber answered ≡ k)
+      ↔ Given k (runRows (badCount need) n word (tooLong (length a) || tooLong (length b)) (differ (length a) (length b) || unequal a words marks) (somewhere (outsidePair n) (zip a b)))
+  run-exactly = runs.answer-exactly _ _ _ _ _ outsidePair (zip a b)
+
+  -- 6 comes with the smallest sample outside the width, and any other number with sample 0
+  pub run-six : runNumber answered ≡ 6 → Smallest (outsidePair n) (zip a b) (runSample answered)
+  run-six = runs.six-smallest _ _ _ _ _ outsidePair (zip a b)
+
+  pub run-others : (runNumber answered ≡ 6 → ⊥) → runSample answered ≡ 0
+  run-others = runs.other-zero _ _ _ _ _ outsidePair (zip a b)

@@ -1,0 +1,79 @@
+-- A run equals its steps: what an accepted run writes is what the public constructor and steps show, one after the other.
+use mathlib.Core.Path.{_≡_, refl, sym, ap, _∙_}
+use mathlib.Core.List.{List, map, zip}
+use mathlib.Core.Bool.{Bool, true, false, _||_}
+use Prim.Native.Nat.{ℕ, _+_, _-_, _≤_}
+use native.Mathlib.Omega.{arith}
+use lib.ListN.{length}
+use lib.Dec.{ltb, eqb}
+use borrow.Author.Tests.{le-ltb, ltb-true}
+use Rattle.rules.specs.Choose.{if_then_else_}
+use Rattle.rules.specs.Limits.{badCount, badWidth, tooLong, differ, outside}
+use Rattle.rules.specs.Table.{first}
+use Rattle.rules.proofs.Readings.{Runs}
+use Rattle.rules.proofs.Tables.{or-neither}
+use Rattle.trace.specs.declared.RunAnswer.the-variants.{Done}
+use Rattle.trace.specs.Samples.{somewhere, outsidePair}
+use Rattle.trace.proofs.Runs.{answer-done}
+use Rattle.trace.proofs.Samples.{nowhere}
+use Rattle.trace.proofs.Steps.{agree}
+use Rattle.vote.specs.declared.Vote.{Vote}
+use Rattle.vote.specs.Vote.{fresh, agreed, held, alarm, clauses, made, madeOf, stepOf}
+use Rattle.vote.specs.Run.{leaves, plain, publicPlain, steps, publicSteps, shownWord, shownMark, unequal, answerOf, Ran, Stepwise}
+
+-- a state of width n that a step takes
+pub record Sound (n : ℕ) (s : Vote) : Type 0 where
+  pub width : s .n ≡ n
+  pub counted : badCount (s .need) ≡ false
+  pub wide : badWidth n ≡ false
+  pub small : s .count ≤ s .need - 1
+  pub word-in : outside n (s .word) ≡ false
+
+-- with words inside the width the public step on it is the clauses
+pub step-is-clauses : (n : ℕ) (s : Vote) (a b : ℕ) (reset : Bool) → Sound n s → outside n a || outside n b ≡ false → stepOf s a b reset ≡ clauses s a b reset
+unfolding stepOf first
+step-is-clauses n s a b reset g e = simp (g .width, g .counted, g .wide, e, le-ltb _ _ (g .small), g .word-in)
+
+-- and the clauses leave such a state again
+pub sound-next : (n : ℕ) (s : Vote) (a b : ℕ) (reset : Bool) → Sound n s → outside n a || outside n b ≡ false → Sound n (clauses s a b reset .state)
+unfolding clauses
+sound-next n s a b reset g e = go (eqb a b) reset (ltb (s .count) (s .need - 1)) refl where
+  kept : (word count : ℕ) → outside n word ≡ false → count ≤ s .need - 1 → Sound n (record { n = s .n; need = s .need; word = word; count = count })
+  kept word count o h = record { width = g .width; counted = g .counted; wide = g .wide; small = h; word-in = o }
+
+  go : (p q r : Bool) → ltb (s .count) (s .need - 1) ≡ r → Sound n ((if p then agreed s a else if q then held s 0 else if r then held s (s .count + 1) else alarm s) .state)
+  go true q r h = kept a 0 (or-neither (outside n a) (outside n b) e .0) (omega arith)
+  go false true r h = kept (s .word) 0 (g .word-in) (omega arith)
+  go false false true h = kept (s .word) (s .count + 1) (g .word-in) (omega (arith, ltb-true (s .count) (s .need - 1) h))
+  go false false false h = g
+
+module _ (n need word : ℕ) (a b words marks : List ℕ) (accepted : answerOf n need word a b words marks ≡ Done) where
+  fine : Runs (badCount need) n word (tooLong (length a) || tooLong (length b)) (differ (length a) (length b) || unequal a words marks) (somewhere (outsidePair n) (zip a b))
+  fine = answer-done _ _ _ _ _ outsidePair (zip a b) accepted
+
+  -- the public constructor makes the fresh state
+  made-fresh : madeOf n need word ≡ made n need word
+  unfolding madeOf first
+  made-fresh = simp (fine .counted, fine .wide, fine .word-in)
+
+  start : Sound n (fresh n need word)
+  start = record { width = refl; counted = fine .counted; wide = fine .wide; small = omega arith; word-in = fine .word-in }
+
+  -- and each public step is the clauses
+  pub same-steps : steps (fresh n need word) (zip a b) ≡ publicSteps (madeOf n need word .state) (zip a b)
+  same-steps =
+      rw made-fresh
+      (agree plain publicPlain leaves (Sound n) (λ (x : ℕ × ℕ). outsidePair n x ≡ false)
+      (λ s x. step-is-clauses n s (x .0) (x .1) false) (λ s x. sound-next n s (x .0) (x .1) false) (0, 0)
+      (fresh n need word) (zip a b) start (nowhere (outsidePair n) (zip a b) (0, 0) (fine .samples-in)))
+
+pub run-is-steps :
+    (n need word : ℕ) (a b words marks words′ marks′ : List ℕ)
+    → Ran n need word a b words marks Done words′ marks′ → Stepwise n need word a b words′ marks′
+run-is-steps n need word a b words marks words′ marks′ ran =
+    let same = same-steps n need word a b words marks (sym (ran .answered)) in
+    record {
+      made = rw (made-fresh n need word a b words marks (sym (ran .answered)));
+      words-same = ran .words-after ∙ ap (map shownWord) same;
+      marks-same = ran .marks-after ∙ ap (map shownMark) same;
+    }

@@ -1,0 +1,65 @@
+-- Each public call's own contract, as the source states it, is its definition applied to the inputs, and so determines the
+-- answer and every slice that is lent to be written. A slice that is lent as `&` cannot change: its type says so.
+use mathlib.Core.List.{List, map, zip}
+use Prim.Native.Nat.{ℕ}
+use denote.Ref.{now}
+use contract.Lifetimes.{Lfts}
+use Rattle.rules.specs.Limits.{defaultWord}
+use Rattle.rules.specs.Promise.{Fixes}
+use Rattle.rules.proofs.Promise.{fixes}
+use Rattle.trace.specs.Answers.{after}
+use Rattle.trace.specs.declared.RunAnswer.{RunAnswer}
+use Rattle.vote.specs.Answers.{numberOf, wordOf, markOf}
+use Rattle.vote.specs.Vote
+use Rattle.vote.specs.Vote.{fresh, madeOf, badState, stepOf}
+use Rattle.vote.specs.Run.{steps, shownWord, shownMark, answerOf}
+use Rattle.vote.proofs.VoteAnswer.number.Reads as number
+use Rattle.vote.proofs.VoteAnswer.word.Reads as word
+use Rattle.vote.proofs.VoteAnswer.mark.Reads as mark
+use Rattle.vote.proofs.Vote.from_word.Reads as from-word
+use Rattle.vote.proofs.Vote.new.Reads as new
+use Rattle.vote.proofs.Vote.bad_state.Reads as bad-state
+use Rattle.vote.proofs.Vote.clauses.Reads as clauses
+use Rattle.vote.proofs.Vote.step.Reads as step
+use Rattle.vote.proofs.run.Reads as run
+
+pub number-unique : Fixes (number.Learnt tt) (λ z e. z) (λ a. numberOf (a .0))
+number-unique = fixes (λ a z e p. p)
+
+pub word-unique : Fixes (word.Learnt tt) (λ z e. z) (λ a. wordOf (a .0))
+word-unique = fixes (λ a z e p. p)
+
+pub mark-unique : Fixes (mark.Learnt tt) (λ z e. z) (λ a. markOf (a .0))
+mark-unique = fixes (λ a z e p. p)
+
+pub from-word-unique : Fixes (from-word.Learnt tt) (λ z e. z) (λ a. madeOf (a .0) (a .1 .0) (a .1 .1 .0))
+from-word-unique = fixes (λ a z e p. p)
+
+pub new-unique : Fixes (new.Learnt tt) (λ z e. z) (λ a. madeOf (a .0) (a .1 .0) (defaultWord (a .0)))
+new-unique = fixes (λ a z e p. p)
+
+pub bad-state-unique : Fixes (bad-state.Learnt tt) (λ z e. z) (λ a. badState (a .0))
+bad-state-unique = fixes (λ a z e p. p)
+
+pub clauses-unique : Fixes (clauses.Learnt tt) (λ z e. z) (λ a. Vote.clauses (a .0) (a .1 .0) (a .1 .1 .0) (a .1 .1 .1 .0))
+clauses-unique = fixes (λ a z e p. p)
+
+pub step-unique : Fixes (step.Learnt tt) (λ z e. z) (λ a. stepOf (a .0) (a .1 .0) (a .1 .1 .0) (a .1 .1 .1 .0))
+step-unique = fixes (λ a z e p. p)
+
+-- a run: its answer, and the words and marks as it leaves them
+abbrev Seen : Type 0
+Seen = RunAnswer × List ℕ × List ℕ
+
+abbrev ran : ℕ → ℕ → ℕ → List ℕ → List ℕ → List ℕ → List ℕ → Seen
+ran n need w a b words marks =
+    let r = answerOf n need w a b words marks in
+    let taken = steps (fresh n need w) (zip a b) in
+    (r, after r words (map shownWord taken), after r marks (map shownMark taken))
+
+pub run-unique :
+    (κs : Lfts 4)
+    → Fixes {O = Seen} (run.Learnt κs)
+    (λ z e. let lent = e .1 .1 .1 .1 .1 in (z, now (lent .0), now (lent .1 .0)))
+    (λ a. let lent = a .1 .1 .1 in ran (a .0) (a .1 .0) (a .1 .1 .0) (now (lent .0)) (now (lent .1 .0)) (now (lent .1 .1 .0)) (now (lent .1 .1 .1 .0)))
+run-unique κs = fixes (λ a z e p. cc)

@@ -1,0 +1,6 @@
+-- `Vote::new` meets its contract.
+use Rattle.vote.proofs.Vote.new.Statement.{statement}
+use Rattle.vote.proofs.Vote.new.Tie as tie
+
+pub new-spec : {M : Type 1} → statement M
+new-spec = tie.close (tie.spec (λ _ _. tt) (λ _ _. tt) (λ c. rw (c .from-word .ensures, c .before .default-word .ensures)))

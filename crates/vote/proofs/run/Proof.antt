@@ -1,0 +1,63 @@
+-- `vote::run` meets its contract: a refused run leaves every slice, and where none is refused the lengths are alike.
+use mathlib.Core.Path.{_≡_, sym, _∙_}
+use mathlib.Core.Bool.{false, _||_}
+use Prim.Native.Nat.{ℕ}
+use borrow.Author.Needs.{needs}
+use lib.ListN.{length}
+use Rattle.rules.specs.Limits.{differ}
+use Rattle.rules.proofs.Ranges.{same}
+use Rattle.rules.proofs.Tables.{or-neither}
+use Rattle.trace.specs.Samples.{outsidePair}
+use Rattle.trace.proofs.Runs.{answer-done}
+use Rattle.vote.specs.Run.{answerOf, unequal}
+use Rattle.vote.proofs.run.Statement.{statement}
+use Rattle.vote.proofs.run.Tie as tie
+
+answered : (c : tie.After-judge-pair) → let a = c .before .before .before .before .before .before .args in
+    c .judge-pair .result ≡ answerOf (a .n) (a .need) (a .word) (a .a .now) (a .b .now) (a .words .now) (a .marks .now)
+answered c = rw (c .judge-pair .ensures, c .before .bad-count .ensures)
+
+returns : tie.Need-returns
+returns c =
+    let refused = c .enum-told2 .given .1 in
+    record { answered = answered (c .before .before); words-after = rw refused; marks-after = rw refused }
+
+-- where the run is not refused, every slice is as long as the first column
+alike : (c : tie.After-enum-told) → let a = c .before .before .before .before .before .before .before .before .args in
+    differ (length (a .a .now)) (length (a .b .now)) || unequal (a .a .now) (a .words .now) (a .marks .now) ≡ false
+alike c = answer-done _ _ _ _ _ outsidePair _ (sym (answered (c .before .before)) ∙ c .enum-told .given .1) .alike
+
+three : (a b c d : ℕ) → differ a b || (differ a c || differ a d) ≡ false → (a ≡ b) × ((a ≡ c) × (a ≡ d))
+three a b c d e =
+    let p = or-neither (differ a b) (differ a c || differ a d) e in
+    let q = or-neither (differ a c) (differ a d) (p .1) in
+    (same a b (p .0), (same a c (q .0), same a d (q .1)))
+
+write-steps-requires : tie.Need-write-steps-requires
+write-steps-requires c κs = three _ _ _ _ (alike (c .before .before .before))
+
+returns-2 : tie.Need-returns-2
+returns-2 c =
+    let wrote = c .before .before .before .before in
+    let f = wrote .before .before .before in
+    let ran = f .before .enum-told .given .1 in
+    record {
+      answered = sym ran ∙ answered (f .before .before .before);
+      words-after = rw (← f .fresh .ensures) (wrote .write-steps .ensures .0);
+      marks-after = rw (← f .fresh .ensures) (wrote .write-steps .ensures .1);
+    }
+
+pub run-spec : {M : Type 1} → statement M
+run-spec =
+    tie.close
+    (tie.spec
+    (λ _ _. tt)
+    (λ _ _. tt)
+    (λ c. search needs)
+    (λ c. search needs)
+    returns
+    (λ _ _. tt)
+    write-steps-requires
+    (λ c. search needs)
+    (λ c. search needs)
+    returns-2)

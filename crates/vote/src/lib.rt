@@ -1,0 +1,230 @@
+// The vote of two words (document 000, definitions 14 and 16): a state, one step on it, and a run over two lent columns.
+use trace::RunAnswer;
+ghost use mathlib.Core.Path.{_≡_};
+ghost use mathlib.Core.List.{map, zip};
+ghost use lib.ListN.{length};
+ghost use Rattle.rules.specs.Limits.{defaultWord};
+ghost use Rattle.vote.specs.Answers.{numberOf, wordOf, markOf};
+ghost use Rattle.vote.specs.Vote.{fresh, agreed, held, clauses, madeOf, badState, stepOf};
+ghost use Rattle.vote.specs.Run.{steps, shownWord, shownMark, Ran};
+
+// The state of a vote, with its width n and its count N (`need`).
+pub struct Vote {
+    pub n: u32,
+    pub need: u32,
+    // The last agreed word.
+    pub word: u32,
+    pub count: u32,
+}
+
+// A constructor's answer: refusal 0 is none.
+pub struct VoteMade {
+    pub state: Vote,
+    pub refusal: u32,
+}
+
+// The word that is shown, on hold and alarm the last agreed one, or a refusal's number.
+pub enum VoteAnswer {
+    Agreed(u32),
+    Held(u32),
+    Alarm(u32),
+    Refused(u32),
+}
+
+// A step's answer, beside the state that it leaves.
+pub struct VoteStep {
+    pub state: Vote,
+    pub answer: VoteAnswer,
+}
+
+impl VoteAnswer {
+    // The refusal's number, 0 for none.
+    pub fn number(self) -> u32
+        ensures { λ r. ⌜ r ≡ numberOf self ⌝ }
+    {
+        match self {
+            VoteAnswer::Agreed(_) => 0,
+            VoteAnswer::Held(_) => 0,
+            VoteAnswer::Alarm(_) => 0,
+            VoteAnswer::Refused(k) => k,
+        }
+    }
+
+    // The word that is shown, 0 with a refusal.
+    pub fn word(self) -> u32
+        ensures { λ r. ⌜ r ≡ wordOf self ⌝ }
+    {
+        match self {
+            VoteAnswer::Agreed(w) => w,
+            VoteAnswer::Held(w) => w,
+            VoteAnswer::Alarm(w) => w,
+            VoteAnswer::Refused(_) => 0,
+        }
+    }
+
+    // The mark byte: 0 agreed, 1 held, 2 alarm, 255 with a refusal.
+    pub fn mark(self) -> u8
+        ensures { λ r. ⌜ r ≡ markOf self ⌝ }
+    {
+        match self {
+            VoteAnswer::Agreed(_) => 0,
+            VoteAnswer::Held(_) => 1,
+            VoteAnswer::Alarm(_) => 2,
+            VoteAnswer::Refused(_) => 255,
+        }
+    }
+}
+
+impl Vote {
+    fn fresh(n: u32, need: u32, word: u32) -> Vote
+        ensures { λ r. ⌜ r ≡ fresh n need word ⌝ }
+    {
+        Vote {
+            n,
+            need,
+            word,
+            count: 0,
+        }
+    }
+
+    // A fresh state from a width, a count and an initial word.
+    pub fn from_word(n: u32, need: u32, word: u32) -> VoteMade
+        ensures { λ r. ⌜ r ≡ madeOf n need word ⌝ }
+    {
+        let refusal = rules::make_refusal(rules::bad_count(need), n, word);
+        if refusal != 0 {
+            let state = Vote::fresh(1, 1, 0);
+            return VoteMade { state, refusal };
+        }
+        let state = Vote::fresh(n, need, word);
+        VoteMade { state, refusal }
+    }
+
+    // A fresh state from zero.
+    pub fn new(n: u32, need: u32) -> VoteMade
+        ensures { λ r. ⌜ r ≡ madeOf n need (defaultWord n) ⌝ }
+    {
+        Vote::from_word(n, need, rules::default_word(n))
+    }
+
+    fn agreed(self, word: u32) -> VoteStep
+        ensures { λ r. ⌜ r ≡ agreed self word ⌝ }
+    {
+        VoteStep {
+            state: Vote {
+                n: self.n,
+                need: self.need,
+                word,
+                count: 0,
+            },
+            answer: VoteAnswer::Agreed(word),
+        }
+    }
+
+    fn held(self, count: u32) -> VoteStep
+        ensures { λ r. ⌜ r ≡ held self count ⌝ }
+    {
+        VoteStep {
+            state: Vote {
+                n: self.n,
+                need: self.need,
+                word: self.word,
+                count,
+            },
+            answer: VoteAnswer::Held(self.word),
+        }
+    }
+
+    // The core, for rooms that have tested the state and the words themselves: the clauses, in order; the first that applies is
+    // taken, and nothing is refused. The reset stands above the alarm, as document 01 decides against definition 16.
+    pub fn clauses(self, a: u32, b: u32, reset: bool) -> VoteStep
+        ensures { λ r. ⌜ r ≡ clauses self a b reset ⌝ }
+    {
+        let equal = a == b;
+        let waiting = self.count < rules::last(self.need);
+        if equal {
+            return self.agreed(a);
+        }
+        if reset {
+            return self.held(0);
+        }
+        if waiting {
+            return self.held(self.count + 1);
+        }
+        VoteStep {
+            state: self,
+            answer: VoteAnswer::Alarm(self.word),
+        }
+    }
+
+    // 7: the count is above N-1, or the stored word is outside the width.
+    pub fn bad_state(self) -> bool
+        ensures { λ r. ⌜ r ≡ badState self ⌝ }
+    {
+        let word = rules::outside(self.n, self.word);
+        (self.count > rules::last(self.need)) | word
+    }
+
+    // One step. A refused one returns the state it got.
+    pub fn step(self, a: u32, b: u32, reset: bool) -> VoteStep
+        ensures { λ r. ⌜ r ≡ stepOf self a b reset ⌝ }
+    {
+        let outlying = rules::outside(self.n, a) | rules::outside(self.n, b);
+        let refusal = rules::step_refusal(
+            rules::bad_count(self.need),
+            self.n,
+            outlying,
+            self.bad_state(),
+        );
+        if refusal != 0 {
+            return VoteStep {
+                state: self,
+                answer: VoteAnswer::Refused(refusal),
+            };
+        }
+        self.clauses(a, b, reset)
+    }
+}
+
+// A step for each sample, from a state, without resets: what each shows is written.
+fn write_steps(start: Vote, a: &[u32], b: &[u32], words: &mut [u32], marks: &mut [u8])
+    requires { ⌜ length (now a) ≡ length (now b) ⌝ }
+    requires { ⌜ length (now a) ≡ length (now words) ⌝ }
+    requires { ⌜ length (now a) ≡ length (now marks) ⌝ }
+    ensures { λ _. ⌜ now (words .exit) ≡ map shownWord (steps start (zip (now (a .entry)) (now (b .entry)))) ⌝ }
+    ensures { λ _. ⌜ now (marks .exit) ≡ map shownMark (steps start (zip (now (a .entry)) (now (b .entry)))) ⌝ }
+{
+    let mut state = start;
+    let mut i = 0;
+    while i < a.len() {
+        let taken = state.clauses(a[i], b[i], false);
+        let answer = taken.answer;
+        state = taken.state;
+        words[i] = answer.word();
+        marks[i] = answer.mark();
+        i += 1;
+    }
+}
+
+// A run over two lent columns, from a fresh state, without resets.
+pub fn run(
+    n: u32,
+    need: u32,
+    word: u32,
+    a: &[u32],
+    b: &[u32],
+    words: &mut [u32],
+    marks: &mut [u8],
+) -> RunAnswer
+    ensures { λ r. ⌜ Ran n need word (now (a .entry)) (now (b .entry)) (now (words .entry)) (now (marks .entry))
+        r (now (words .exit)) (now (marks .exit)) ⌝ }
+{
+    let len = a.len();
+    let unequal = (len != words.len()) | (len != marks.len());
+    let answer = trace::judge_pair(rules::bad_count(need), n, word, a, b, unequal);
+    let RunAnswer::Done = answer else {
+        return answer;
+    };
+    write_steps(Vote::fresh(n, need, word), a, b, words, marks);
+    RunAnswer::Done
+}
