@@ -1,3 +1,5 @@
+pub mod Alarms
+pub mod Clauses
 pub mod Exactly
 pub mod Stepwise
 pub mod Unique

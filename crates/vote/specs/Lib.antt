@@ -1,3 +1,4 @@
+pub mod Alarms
 pub mod Answers
 pub mod Run
 pub mod Vote

@@ -1,0 +1,37 @@
+-- What the clauses of a vote never do: an alarm does not latch, a reset is never an alarm, and on hold and alarm the word that
+-- is shown, and stays, is the last agreed one.
+use mathlib.Core.Path.{_≡_, refl}
+use mathlib.Core.Bool.{Bool, true, false}
+use Prim.Native.Nat.{ℕ, _+_, _-_}
+use native.Mathlib.Omega.{arith}
+use lib.Dec.{ltb, eqb}
+use borrow.Author.Tests.{eq-eqb}
+use Rattle.rules.specs.Choose.{if_then_else_}
+use Rattle.vote.specs.declared.Vote.{Vote}
+use Rattle.vote.specs.declared.VoteAnswer.the-variants.{Agreed}
+use Rattle.vote.specs.Run.{shownWord, shownMark}
+use Rattle.vote.specs.Vote.{agreed, held, alarm, clauses}
+
+module _ (s : Vote) where
+  -- whatever came before, equal words agree
+  pub agrees : (a : ℕ) (reset : Bool) → clauses s a a reset .answer ≡ Agreed a
+  unfolding clauses
+  agrees a reset = rw (eq-eqb a a refl)
+
+  pub reset-silent : (a b : ℕ) → shownMark (clauses s a b true) ≡ 2 → ⊥
+  unfolding clauses
+  reset-silent a b = go (eqb a b) where
+    go : (p : Bool) → shownMark (if p then agreed s a else held s 0) ≡ 2 → ⊥
+    go true e = omega arith
+    go false e = omega arith
+
+  pub last-agreed : (a b : ℕ) (reset : Bool) → (shownMark (clauses s a b reset) ≡ 0 → ⊥) → (shownWord (clauses s a b reset) ≡ s .word) × (clauses s a b reset .state .word ≡ s .word)
+  unfolding clauses
+  last-agreed a b reset = go (eqb a b) reset (ltb (s .count) (s .need - 1)) where
+    go :
+        (p q r : Bool) → let t = if p then agreed s a else if q then held s 0 else if r then held s (s .count + 1) else alarm s in
+        (shownMark t ≡ 0 → ⊥) → (shownWord t ≡ s .word) × (t .state .word ≡ s .word)
+    go true q r h = absurd (h refl)
+    go false true r h = (refl, refl)
+    go false false true h = (refl, refl)
+    go false false false h = (refl, refl)
