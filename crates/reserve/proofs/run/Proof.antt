@@ -1,0 +1,82 @@
+-- `reserve::run` meets its contract: a refused run leaves every slice, and where none is refused the lengths are alike.
+use mathlib.Core.Path.{_≡_, sym, ap, _∙_}
+use mathlib.Core.Bool.{false, _||_}
+use Prim.Native.Nat.{ℕ}
+use borrow.Author.Needs.{needs}
+use lib.ListN.{length}
+use Rattle.rules.specs.Limits.{badCount, tooLong, differ}
+use Rattle.rules.proofs.Ranges.{same}
+use Rattle.rules.proofs.Readings.{Runs}
+use Rattle.rules.proofs.Tables.{or-neither}
+use Rattle.trace.specs.Samples.{somewhere, outsideFour}
+use Rattle.trace.proofs.Runs.{answer-done}
+use Rattle.reserve.specs.declared.ReserveMade.{ReserveMade}
+use Rattle.reserve.specs.Reserve.{fresh}
+use Rattle.reserve.specs.Run.{samplesOf, unequal, answerOf}
+use Rattle.reserve.proofs.Fresh.{made-fresh}
+use Rattle.reserve.proofs.run.Statement.{statement}
+use Rattle.reserve.proofs.run.Tie as tie
+
+answered : (c : tie.After-judge-four) → let a = c .before .before .before .before .before .before .before .before .args in
+    c .judge-four .result ≡ answerOf (a .n) (a .need) (a .word) (a .a .now) (a .b .now) (a .c .now) (a .d .now) (a .words .now) (a .marks .now)
+answered c = rw (c .judge-four .ensures, c .before .bad-count .ensures)
+
+returns : tie.Need-returns
+returns c =
+    let refused = c .enum-told2 .given .1 in
+    record { answered = answered (c .before .before); words-after = rw refused; marks-after = rw refused }
+
+-- where the run is not refused
+fine : (c : tie.After-enum-told) → let x = c .before .before .before .before .before .before .before .before .before .before .args in
+    let a = x .a .now in let b = x .b .now in let c = x .c .now in let d = x .d .now in
+    Runs (badCount (x .need)) (x .n) (x .word)
+    (tooLong (length a) || tooLong (length b) || tooLong (length c) || tooLong (length d))
+    (differ (length a) (length b) || differ (length a) (length c) || differ (length a) (length d) || unequal a (x .words .now) (x .marks .now))
+    (somewhere (outsideFour (x .n)) (samplesOf a b c d))
+fine c = answer-done _ _ _ _ _ outsideFour _ (sym (answered (c .before .before)) ∙ c .enum-told .given .1)
+
+five :
+    (a b c d w m : ℕ) → differ a b || differ a c || differ a d || (differ a w || differ a m) ≡ false
+    → ((a ≡ b) × (a ≡ c) × (a ≡ d)) × ((a ≡ w) × (a ≡ m))
+five a b c d w m e =
+    let p = or-neither (differ a b || differ a c || differ a d) (differ a w || differ a m) e in
+    let q = or-neither (differ a b || differ a c) (differ a d) (p .0) in
+    let r = or-neither (differ a b) (differ a c) (q .0) in
+    let s = or-neither (differ a w) (differ a m) (p .1) in
+    ((same a b (r .0), same a c (r .1), same a d (q .1)), (same a w (s .0), same a m (s .1)))
+
+write-steps-requires : tie.Need-write-steps-requires
+write-steps-requires c κs = five _ _ _ _ _ _ (fine (c .before .before .before .before) .alike)
+
+-- the run starts from the fresh state
+start : (c : tie.After-from-word) → let x = c .before .before .before .before .before .before .before .before .before .before .before .args in
+    c .from-word .result .state ≡ fresh (x .n) (x .need) (x .word)
+start c =
+    let f = fine (c .before) in
+    ap (λ (m : ReserveMade). m .state) (c .from-word .ensures ∙ made-fresh _ _ _ (f .counted) (f .wide) (f .word-in))
+
+returns-2 : tie.Need-returns-2
+returns-2 c =
+    let wrote = c .before .before .before .before in
+    let made = wrote .before .before .before .before in
+    let ran = made .before .enum-told .given .1 in
+    record {
+      answered = sym ran ∙ answered (made .before .before .before);
+      words-after = rw (← start made) (wrote .write-steps .ensures .0);
+      marks-after = rw (← start made) (wrote .write-steps .ensures .1);
+    }
+
+pub run-spec : {M : Type 1} → statement M
+run-spec =
+    tie.close
+    (tie.spec
+    (λ _ _. tt)
+    (λ _ _. tt)
+    (λ c. search needs)
+    (λ c. search needs)
+    returns
+    (λ _ _. tt)
+    write-steps-requires
+    (λ c. search needs)
+    (λ c. search needs)
+    returns-2)

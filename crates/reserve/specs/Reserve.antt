@@ -1,0 +1,71 @@
+-- The reserve vote over two pairs: document 000, definition 17, as document 01 has it. Whole words are compared.
+use Prim.Native.Nat.{ℕ}
+use mathlib.Core.List.{List}
+use mathlib.Core.Bool.{Bool, true, false, _||_}
+use Rattle.rules.specs.Limits.{badCount, outside}
+use Rattle.rules.specs.Table.{Row, first, answer}
+use Rattle.rules.specs.Refusals.{makeRows, stepRows}
+use Rattle.vote.specs.Vote as vote
+use Rattle.vote.specs.declared.VoteAnswer.{VoteAnswer}
+use Rattle.vote.specs.declared.VoteAnswer.the-variants.{Agreed, Held, Alarm, Refused}
+use Rattle.vote.specs.declared.VoteStep.{VoteStep}
+use Rattle.reserve.specs.declared.Phase.{Phase}
+use Rattle.reserve.specs.declared.Phase.the-variants.{Primary, TakingOver, Reserve as Reserved}
+use Rattle.reserve.specs.declared.Reserve.{Reserve}
+use Rattle.reserve.specs.declared.ReserveMade.{ReserveMade}
+use Rattle.reserve.specs.declared.ReserveStep.{ReserveStep}
+
+-- fresh: primary, with a fresh vote
+abbrev pub fresh : ℕ → ℕ → ℕ → Reserve
+fresh n need word = record { phase = Primary; vote = vote.fresh n need word }
+
+-- an alarm there makes the next step "taking over"
+abbrev pub phaseAfter : VoteAnswer → Phase
+phaseAfter (Agreed w) = Primary
+phaseAfter (Held w) = Primary
+phaseAfter (Alarm w) = TakingOver
+phaseAfter (Refused k) = Primary
+
+-- primary uses units 1 and 2, without a reset
+abbrev pub first-pair : VoteStep → ReserveStep
+first-pair t = record { state = record { phase = phaseAfter (t .answer); vote = t .state }; answer = t .answer; pair = 1 }
+
+-- units 3 and 4; every step after that is "reserve", for ever
+abbrev pub second-pair : VoteStep → ReserveStep
+second-pair t = record { state = record { phase = Reserved; vote = t .state }; answer = t .answer; pair = 2 }
+
+abbrev pub byPhase : {A : Type 0} → Phase → A → A → A → A
+byPhase Primary primary over reserve = primary
+byPhase TakingOver primary over reserve = over
+byPhase Reserved primary over reserve = reserve
+
+-- primary: units 1 and 2; taking over: units 3 and 4, with a reset; reserve: units 3 and 4, no reset
+unfoldable pub clauses : Reserve → ℕ → ℕ → ℕ → ℕ → ReserveStep
+clauses s a b c d =
+    byPhase (s .phase)
+    (first-pair (vote.clauses (s .vote) a b false))
+    (second-pair (vote.clauses (s .vote) c d true))
+    (second-pair (vote.clauses (s .vote) c d false))
+
+-- a constructor; refused: the fresh state of n 1, N 1 and word zero
+abbrev pub made : ℕ → ℕ → ℕ → ReserveMade
+made n need word = record { state = fresh n need word; refusal = 0 }
+
+abbrev pub notMade : ℕ → ReserveMade
+notMade number = record { state = fresh 1 1 0; refusal = number }
+
+unfoldable pub madeOf : ℕ → ℕ → ℕ → ReserveMade
+madeOf n need word = answer (first (makeRows (badCount need) n word)) notMade (made n need word)
+
+-- 6 looks at all four units, whichever pair is in force; 7 at the state of the vote
+abbrev pub rowsOf : Reserve → ℕ → ℕ → ℕ → ℕ → List Row
+rowsOf s a b c d =
+    let v = s .vote in
+    stepRows (badCount (v .need)) (v .n) (outside (v .n) a || outside (v .n) b || (outside (v .n) c || outside (v .n) d)) (vote.badState v)
+
+-- a step; refused: the state as it came, and no pair was voted on
+abbrev pub notTaken : Reserve → ℕ → ReserveStep
+notTaken s number = record { state = s; answer = Refused number; pair = 0 }
+
+unfoldable pub stepOf : Reserve → ℕ → ℕ → ℕ → ℕ → ReserveStep
+stepOf s a b c d = answer (first (rowsOf s a b c d)) (notTaken s) (clauses s a b c d)

@@ -1,0 +1,194 @@
+// The reserve vote over two pairs of units (document 000, definition 17): a state, one step on it, and a run over four lent columns.
+use trace::RunAnswer;
+use vote::Vote;
+use vote::VoteAnswer;
+use vote::VoteStep;
+ghost use mathlib.Core.Path.{_≡_};
+ghost use mathlib.Core.List.{map};
+ghost use lib.ListN.{length};
+ghost use Rattle.rules.specs.Limits.{defaultWord};
+ghost use Rattle.reserve.specs.Reserve.{phaseAfter, first-pair, second-pair, clauses, madeOf, stepOf};
+ghost use Rattle.reserve.specs.Run.{steps, shownWord, shownMark, samplesOf, Ran};
+
+// Which pair is in force: units 1 and 2; units 3 and 4 with a reset, for one step; units 3 and 4 for ever.
+pub enum Phase {
+    Primary,
+    TakingOver,
+    Reserve,
+}
+
+// The state of a reserve vote: the phase, and the state of the vote, whichever pair it is on.
+pub struct Reserve {
+    pub phase: Phase,
+    pub vote: Vote,
+}
+
+// A constructor's answer: refusal 0 is none.
+pub struct ReserveMade {
+    pub state: Reserve,
+    pub refusal: u32,
+}
+
+// A step's answer and the pair that was voted on, 1 or 2, beside the state that it leaves; a refused step votes on none, 0.
+pub struct ReserveStep {
+    pub state: Reserve,
+    pub answer: VoteAnswer,
+    pub pair: u32,
+}
+
+// An alarm of the primary pair hands over.
+fn phase_after(answer: VoteAnswer) -> Phase
+    ensures { λ r. ⌜ r ≡ phaseAfter answer ⌝ }
+{
+    match answer {
+        VoteAnswer::Agreed(_) => Phase::Primary,
+        VoteAnswer::Held(_) => Phase::Primary,
+        VoteAnswer::Alarm(_) => Phase::TakingOver,
+        VoteAnswer::Refused(_) => Phase::Primary,
+    }
+}
+
+fn first_pair(taken: VoteStep) -> ReserveStep
+    ensures { λ r. ⌜ r ≡ first-pair taken ⌝ }
+{
+    let vote = taken.state;
+    let answer = taken.answer;
+    let phase = phase_after(answer);
+    ReserveStep {
+        state: Reserve { phase, vote },
+        answer,
+        pair: 1,
+    }
+}
+
+fn second_pair(taken: VoteStep) -> ReserveStep
+    ensures { λ r. ⌜ r ≡ second-pair taken ⌝ }
+{
+    let vote = taken.state;
+    let answer = taken.answer;
+    ReserveStep {
+        state: Reserve {
+            phase: Phase::Reserve,
+            vote,
+        },
+        answer,
+        pair: 2,
+    }
+}
+
+impl Reserve {
+    // A fresh state from a width, a count and an initial word.
+    pub fn from_word(n: u32, need: u32, word: u32) -> ReserveMade
+        ensures { λ r. ⌜ r ≡ madeOf n need word ⌝ }
+    {
+        let made = Vote::from_word(n, need, word);
+        let vote = made.state;
+        let refusal = made.refusal;
+        ReserveMade {
+            state: Reserve {
+                phase: Phase::Primary,
+                vote,
+            },
+            refusal,
+        }
+    }
+
+    // A fresh state from zero.
+    pub fn new(n: u32, need: u32) -> ReserveMade
+        ensures { λ r. ⌜ r ≡ madeOf n need (defaultWord n) ⌝ }
+    {
+        Reserve::from_word(n, need, rules::default_word(n))
+    }
+
+    // The core, for rooms that have tested the state and the words themselves: the vote of the pair in force.
+    pub fn clauses(self, a: u32, b: u32, c: u32, d: u32) -> ReserveStep
+        ensures { λ r. ⌜ r ≡ clauses self a b c d ⌝ }
+    {
+        let vote = self.vote;
+        let phase = self.phase;
+        match phase {
+            Phase::Primary => first_pair(vote.clauses(a, b, false)),
+            Phase::TakingOver => second_pair(vote.clauses(c, d, true)),
+            Phase::Reserve => second_pair(vote.clauses(c, d, false)),
+        }
+    }
+
+    // One step. The words of all four units are inside the width, or it is refused; a refused one returns the state it got.
+    pub fn step(self, a: u32, b: u32, c: u32, d: u32) -> ReserveStep
+        ensures { λ r. ⌜ r ≡ stepOf self a b c d ⌝ }
+    {
+        let vote = self.vote;
+        let primary = rules::outside(vote.n, a) | rules::outside(vote.n, b);
+        let reserve = rules::outside(vote.n, c) | rules::outside(vote.n, d);
+        let refusal = rules::step_refusal(
+            rules::bad_count(vote.need),
+            vote.n,
+            primary | reserve,
+            vote.bad_state(),
+        );
+        if refusal != 0 {
+            return ReserveStep {
+                state: self,
+                answer: VoteAnswer::Refused(refusal),
+                pair: 0,
+            };
+        }
+        self.clauses(a, b, c, d)
+    }
+}
+
+// A step for each sample, from a state: what each shows is written.
+fn write_steps(
+    start: Reserve,
+    a: &[u32],
+    b: &[u32],
+    c: &[u32],
+    d: &[u32],
+    words: &mut [u32],
+    marks: &mut [u8],
+)
+    requires { ⌜ (length (now a) ≡ length (now b)) × (length (now a) ≡ length (now c)) × (length (now a) ≡ length (now d)) ⌝ }
+    requires { ⌜ length (now a) ≡ length (now words) ⌝ }
+    requires { ⌜ length (now a) ≡ length (now marks) ⌝ }
+    ensures { λ _. ⌜ now (words .exit) ≡
+        map shownWord (steps start (samplesOf (now (a .entry)) (now (b .entry)) (now (c .entry)) (now (d .entry)))) ⌝ }
+    ensures { λ _. ⌜ now (marks .exit) ≡
+        map shownMark (steps start (samplesOf (now (a .entry)) (now (b .entry)) (now (c .entry)) (now (d .entry)))) ⌝ }
+{
+    let mut state = start;
+    let mut i = 0;
+    while i < a.len() {
+        let taken = state.clauses(a[i], b[i], c[i], d[i]);
+        let answer = taken.answer;
+        state = taken.state;
+        words[i] = answer.word();
+        marks[i] = answer.mark();
+        i += 1;
+    }
+}
+
+// A run over four lent columns, from a fresh state.
+pub fn run(
+    n: u32,
+    need: u32,
+    word: u32,
+    a: &[u32],
+    b: &[u32],
+    c: &[u32],
+    d: &[u32],
+    words: &mut [u32],
+    marks: &mut [u8],
+) -> RunAnswer
+    ensures { λ r. ⌜ Ran n need word (now (a .entry)) (now (b .entry)) (now (c .entry)) (now (d .entry))
+        (now (words .entry)) (now (marks .entry)) r (now (words .exit)) (now (marks .exit)) ⌝ }
+{
+    let len = a.len();
+    let unequal = (len != words.len()) | (len != marks.len());
+    let answer = trace::judge_four(rules::bad_count(need), n, word, a, b, c, d, unequal);
+    let RunAnswer::Done = answer else {
+        return answer;
+    };
+    let start = Reserve::from_word(n, need, word).state;
+    write_steps(start, a, b, c, d, words, marks);
+    RunAnswer::Done
+}
