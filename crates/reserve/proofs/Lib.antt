@@ -1,1 +1,4 @@
+pub mod Exactly
 pub mod Fresh
+pub mod Stepwise
+pub mod Unique

@@ -11,8 +11,13 @@ found : (c : tie.After-step-refusal) → let a = c .before .before .before .befo
 found c =
     let units = c .before .before .before in
     rw (
-      c .step-refusal .ensures, c .before .bad-state .ensures, c .before .before .bad-count .ensures,
-      units .outside4 .ensures, units .before .outside3 .ensures, units .before .before .outside2 .ensures, units .before .before .before .outside .ensures
+      c .step-refusal .ensures,
+      c .before .bad-state .ensures,
+      c .before .before .bad-count .ensures,
+      units .outside4 .ensures,
+      units .before .outside3 .ensures,
+      units .before .before .outside2 .ensures,
+      units .before .before .before .outside .ensures,
     )
 
 returns : tie.Need-returns

@@ -1,0 +1,63 @@
+-- Each number of each call is given exactly when its table says so; `Readings` of rules reads the tables out, number by number.
+use mathlib.Core.Path.{_≡_, refl}
+use mathlib.Core.Logic.{_↔_}
+use mathlib.Core.List.{List}
+use mathlib.Core.Bool.{true, false, _||_}
+use Prim.Native.Nat.{ℕ}
+use lib.ListN.{length}
+use Rattle.rules.specs.Limits.{badCount, tooLong, differ}
+use Rattle.rules.specs.Table.{Given, numbered}
+use Rattle.rules.specs.Refusals.{makeRows, runRows}
+use Rattle.rules.proofs.Tables.{exactly-when}
+use Rattle.trace.specs.Samples.{somewhere, Smallest, outsideFour}
+use Rattle.trace.specs.Answers.{runNumber, runSample}
+use Rattle.trace.specs.declared.RunAnswer.{RunAnswer}
+use Rattle.trace.proofs.Runs as runs
+use Rattle.vote.specs.Answers.{numberOf}
+use Rattle.vote.specs.Vote as vote
+use Rattle.vote.proofs.Exactly.{none-refused as vote-none-refused}
+use Rattle.reserve.specs.declared.Phase.{Phase}
+use Rattle.reserve.specs.declared.Phase.the-variants.{Primary, TakingOver, Reserve as Reserved}
+use Rattle.reserve.specs.declared.Reserve.{Reserve}
+use Rattle.reserve.specs.declared.ReserveMade.{ReserveMade}
+use Rattle.reserve.specs.declared.ReserveStep.{ReserveStep}
+use Rattle.reserve.specs.Reserve.{first-pair, second-pair, byPhase, clauses, made, notMade, madeOf, rowsOf, notTaken, stepOf}
+use Rattle.reserve.specs.Run.{samplesOf, unequal, answerOf}
+
+pub from-word-exactly : (n need word k : ℕ) → (madeOf n need word .refusal ≡ k) ↔ Given k (makeRows (badCount need) n word)
+unfolding madeOf numbered
+from-word-exactly n need word = exactly-when (λ (m : ReserveMade). m .refusal) (makeRows (badCount need) n word) notMade (made n need word) refl (λ k. refl) refl
+
+-- the clauses refuse nothing, whichever pair is in force
+pub none-refused : (s : Reserve) (a b c d : ℕ) → numberOf (clauses s a b c d .answer) ≡ 0
+unfolding clauses
+none-refused s a b c d = go (s .phase) where
+  go :
+      (p : Phase)
+      → numberOf (byPhase p (first-pair (vote.clauses (s .vote) a b false)) (second-pair (vote.clauses (s .vote) c d true)) (second-pair (vote.clauses (s .vote) c d false)) .answer) ≡ 0
+  go Primary = vote-none-refused (s .vote) a b false
+  go TakingOver = vote-none-refused (s .vote) c d true
+  go Reserved = vote-none-refused (s .vote) c d false
+
+pub step-exactly : (s : Reserve) (a b c d k : ℕ) → (numberOf (stepOf s a b c d .answer) ≡ k) ↔ Given k (rowsOf s a b c d)
+unfolding stepOf numbered
+step-exactly s a b c d = exactly-when (λ (t : ReserveStep). numberOf (t .answer)) (rowsOf s a b c d) (notTaken s) (clauses s a b c d) refl (λ k. refl) (none-refused s a b c d)
+
+module _ (n need word : ℕ) (a b c d words marks : List ℕ) where
+  abbrev answered : RunAnswer
+  answered = answerOf n need word a b c d words marks
+
+  pub run-exactly :
+      (k : ℕ) → (runNumber answered ≡ k)
+      ↔ Given k (runRows (badCount need) n word
+      (tooLong (length a) || tooLong (length b) || tooLong (length c) || tooLong (length d))
+      (differ (length a) (length b) || differ (length a) (length c) || differ (length a) (length d) || unequal a words marks)
+      (somewhere (outsideFour n) (samplesOf a b c d)))
+  run-exactly = runs.answer-exactly _ _ _ _ _ outsideFour (samplesOf a b c d)
+
+  -- 6 comes with the smallest sample outside the width, and any other number with sample 0
+  pub run-six : runNumber answered ≡ 6 → Smallest (outsideFour n) (samplesOf a b c d) (runSample answered)
+  run-six = runs.six-smallest _ _ _ _ _ outsideFour (samplesOf a b c d)
+
+  pub run-others : (runNumber answered ≡ 6 → ⊥) → runSample answered ≡ 0
+  run-others = runs.other-zero _ _ _ _ _ outsideFour (samplesOf a b c d)
