@@ -21,7 +21,7 @@ use Rattle.reserve.specs.declared.Phase.the-variants.{Primary, TakingOve
 use Rattle.reserve.specs.declared.Reserve.{Reserve}
 use Rattle.reserve.specs.declared.ReserveMade.{ReserveMade}
 use Rattle.reserve.specs.declared.ReserveStep.{ReserveStep}
-use Rattle.reserve.specs.Reserve.{first-pair, second-pair, byPhase, clauses, made, notMade, madeOf, rowsOf, notTaken, stepOf}
+use Rattle.reserve.specs.Reserve.{inPhase, clauses, made, notMade, madeOf, rowsOf, notTaken, stepOf}
 use Rattle.reserve.specs.Run.{samplesOf, unequal, answerOf}
 
 pub from-word-exactly : (n need word k : ℕ) → (madeOf n need word .refusal ≡ k) ↔ Given k (makeRows (badCount need) n word)
@@ -32,9 +32,7 @@ from-word-exactly n need word = exactly-when (λ (m : ReserveMade). m .refusal) 
 pub none-refused : (s : Reserve) (a b c d : ℕ) → numberOf (clauses s a b c d .answer) ≡ 0
 unfolding clauses
 none-refused s a b c d = go (s .phase) where
-  go :
-      (p : Phase)
-      → numberOf (byPhase p (first-pair (vote.clauses (s .vote) a b false)) (second-pair (vote.clauses (s .vote) c d true)) (second-pair (vote.clauses (s .vote) c d false)) .answer) ≡ 0
+  go : (p : Phase) → numberOf (inPhase p (s .vote) a b c d .answer) ≡ 0
   go Primary = vote-none-refused (s .vote) a b false
   go TakingOver = vote-none-refused (s .vote) c d true
   go Reserved = vote-none-refused (s .vote) c d false

@@ -1,4 +1,5 @@
 pub mod Exactly
 pub mod Fresh
+pub mod HandOver
 pub mod Stepwise
 pub mod Unique

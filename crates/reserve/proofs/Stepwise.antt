@@ -21,7 +21,7 @@ use Rattle.vote.proofs.Stepwise as vote-steps
 use Rattle.reserve.specs.declared.Phase.{Phase}
 use Rattle.reserve.specs.declared.Phase.the-variants.{Primary, TakingOver, Reserve as Reserved}
 use Rattle.reserve.specs.declared.Reserve.{Reserve}
-use Rattle.reserve.specs.Reserve.{fresh, first-pair, second-pair, byPhase, clauses, madeOf, stepOf}
+use Rattle.reserve.specs.Reserve.{fresh, inPhase, clauses, madeOf, stepOf}
 use Rattle.reserve.specs.Run.{leaves, Sample, stepped, publicStep, steps, publicSteps, shownWord, shownMark, samplesOf, unequal, answerOf, Ran, Stepwise}
 use Rattle.reserve.proofs.Fresh.{made-fresh}
 
@@ -37,11 +37,7 @@ sound-next n s x g e = go (s .phase) where
   units : (outside n (x .0 .0) || outside n (x .0 .1) ≡ false) × (outside n (x .1 .0) || outside n (x .1 .1) ≡ false)
   units = or-neither (outside n (x .0 .0) || outside n (x .0 .1)) (outside n (x .1 .0) || outside n (x .1 .1)) e
 
-  go :
-      (p : Phase) → Sound n (byPhase p
-      (first-pair (vote.clauses (s .vote) (x .0 .0) (x .0 .1) false))
-      (second-pair (vote.clauses (s .vote) (x .1 .0) (x .1 .1) true))
-      (second-pair (vote.clauses (s .vote) (x .1 .0) (x .1 .1) false)) .state .vote)
+  go : (p : Phase) → Sound n (inPhase p (s .vote) (x .0 .0) (x .0 .1) (x .1 .0) (x .1 .1) .state .vote)
   go Primary = vote-steps.sound-next n (s .vote) (x .0 .0) (x .0 .1) false g (units .0)
   go TakingOver = vote-steps.sound-next n (s .vote) (x .1 .0) (x .1 .1) true g (units .1)
   go Reserved = vote-steps.sound-next n (s .vote) (x .1 .0) (x .1 .1) false g (units .1)

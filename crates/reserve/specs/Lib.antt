@@ -1,2 +1,3 @@
+pub mod HandOver
 pub mod Reserve
 pub mod Run

@@ -8,6 +8,7 @@ use Rattle.rules.specs.Refusals.{makeRows, stepRows}
 use Rattle.vote.specs.Vote as vote
 use Rattle.vote.specs.declared.VoteAnswer.{VoteAnswer}
 use Rattle.vote.specs.declared.VoteAnswer.the-variants.{Agreed, Held, Alarm, Refused}
+use Rattle.vote.specs.declared.Vote.{Vote}
 use Rattle.vote.specs.declared.VoteStep.{VoteStep}
 use Rattle.reserve.specs.declared.Phase.{Phase}
 use Rattle.reserve.specs.declared.Phase.the-variants.{Primary, TakingOver, Reserve as Reserved}
@@ -34,18 +35,17 @@ first-pair t = record { state = record { phase = phaseAfter (t .answer); vote = 
 abbrev pub second-pair : VoteStep → ReserveStep
 second-pair t = record { state = record { phase = Reserved; vote = t .state }; answer = t .answer; pair = 2 }
 
-abbrev pub byPhase : {A : Type 0} → Phase → A → A → A → A
-byPhase Primary primary over reserve = primary
-byPhase TakingOver primary over reserve = over
-byPhase Reserved primary over reserve = reserve
+-- the vote of the pair in force
+abbrev pub inPhase : Phase → Vote → ℕ → ℕ → ℕ → ℕ → ReserveStep
+-- primary: units 1 and 2, no reset
+inPhase Primary v a b c d = first-pair (vote.clauses v a b false)
+-- taking over: units 3 and 4, with a reset
+inPhase TakingOver v a b c d = second-pair (vote.clauses v c d true)
+-- reserve: units 3 and 4, no reset
+inPhase Reserved v a b c d = second-pair (vote.clauses v c d false)
 
--- primary: units 1 and 2; taking over: units 3 and 4, with a reset; reserve: units 3 and 4, no reset
 unfoldable pub clauses : Reserve → ℕ → ℕ → ℕ → ℕ → ReserveStep
-clauses s a b c d =
-    byPhase (s .phase)
-    (first-pair (vote.clauses (s .vote) a b false))
-    (second-pair (vote.clauses (s .vote) c d true))
-    (second-pair (vote.clauses (s .vote) c d false))
+clauses s a b c d = inPhase (s .phase) (s .vote) a b c d
 
 -- a constructor; refused: the fresh state of n 1, N 1 and word zero
 abbrev pub made : ℕ → ℕ → ℕ → ReserveMade

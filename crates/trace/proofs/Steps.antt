@@ -1,5 +1,5 @@
--- A run by one kind of step is the run by another, where the two agree on good states and good samples and a good state stays
--- good: so a run that tests nothing at each sample equals the public steps that test everything.
+-- Two runs are equal where their steps agree on good states and alike samples and a good state stays good. So a run that tests
+-- nothing at each sample equals the public steps that test everything, and what no step looks at changes no run.
 use mathlib.Core.Path.{_≡_, refl, ap}
 use mathlib.Core.List.{List, [], _∷_}
 use Prim.Native.Nat.{ℕ, suc, _<_}
@@ -7,14 +7,30 @@ use native.Mathlib.Omega.{arith}
 use lib.ListN.{length, getD}
 use Rattle.trace.specs.Trace.{trace}
 
-module _ {S X T : Type 0} (core step : S → X → T) (next : T → S) (Good : S → Type 0) (Fine : X → Type 0) where
+module _ {S X T : Type 0} (core step : S → X → T) (next : T → S) (Good : S → Type 0) where
+  pub alike :
+      (Like : X → X → Type 0)
+      → ((s : S) (x y : X) → Good s → Like x y → step s y ≡ core s x)
+      → ((s : S) (x y : X) → Good s → Like x y → Good (next (core s x)))
+      → (d : X) (s : S) (xs ys : List X) → Good s → length xs ≡ length ys
+      → ((i : ℕ) → i < length xs → Like (getD xs i d) (getD ys i d))
+      → trace core next s xs ≡ trace step next s ys
+  unfolding trace
+  alike Like same keeps d s [] [] g l like = refl
+  alike Like same keeps d s [] (y ∷ ys) g l like = absurd (let z : 0 ≡ suc (length ys) = l in omega arith)
+  alike Like same keeps d s (x ∷ xs) [] g l like = absurd (let z : suc (length xs) ≡ 0 = l in omega arith)
+  alike Like same keeps d s (x ∷ xs) (y ∷ ys) g l like =
+      let here : Like x y = like 0 (omega arith) in
+      let rest : length xs ≡ length ys = (let z : suc (length xs) ≡ suc (length ys) = l in omega arith) in
+      rw (same s x y g here)
+      (ap (λ (l : List T). core s x ∷ l) (alike Like same keeps d (next (core s x)) xs ys (keeps s x y g here) rest (λ i h. like (suc i) (omega arith))))
+
   pub agree :
-      ((s : S) (x : X) → Good s → Fine x → step s x ≡ core s x)
+      (Fine : X → Type 0)
+      → ((s : S) (x : X) → Good s → Fine x → step s x ≡ core s x)
       → ((s : S) (x : X) → Good s → Fine x → Good (next (core s x)))
       → (d : X) (s : S) (xs : List X) → Good s → ((i : ℕ) → i < length xs → Fine (getD xs i d))
       → trace core next s xs ≡ trace step next s xs
-  unfolding trace
-  agree same keeps d s [] g fine = refl
-  agree same keeps d s (x ∷ xs) g fine =
-      let here : Fine x = fine 0 (omega arith) in
-      rw (same s x g here) (ap (λ (l : List T). core s x ∷ l) (agree same keeps d (next (core s x)) xs (keeps s x g here) (λ i h. fine (suc i) (omega arith))))
+  agree Fine same keeps d s xs g fine =
+      alike (λ (x y : X). Fine x × (x ≡ y)) (λ s x y g like. rw (← like .1) (same s x g (like .0))) (λ s x y g like. keeps s x g (like .0))
+      d s xs xs g refl (λ i h. (fine i h, refl))

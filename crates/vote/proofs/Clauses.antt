@@ -1,5 +1,5 @@
 -- What the clauses of a vote never do: an alarm does not latch, a reset is never an alarm, and on hold and alarm the word that
--- is shown, and stays, is the last agreed one.
+-- is shown, and stays, is the last agreed one. The width stays.
 use mathlib.Core.Path.{_≡_, refl}
 use mathlib.Core.Bool.{Bool, true, false}
 use Prim.Native.Nat.{ℕ, _+_, _-_}
@@ -35,3 +35,12 @@ module _ (s : Vote) where
     go false true r h = (refl, refl)
     go false false true h = (refl, refl)
     go false false false h = (refl, refl)
+
+  pub same-width : (a b : ℕ) (reset : Bool) → clauses s a b reset .state .n ≡ s .n
+  unfolding clauses
+  same-width a b reset = go (eqb a b) reset (ltb (s .count) (s .need - 1)) where
+    go : (p q r : Bool) → (if p then agreed s a else if q then held s 0 else if r then held s (s .count + 1) else alarm s) .state .n ≡ s .n
+    go true q r = refl
+    go false true r = refl
+    go false false true = refl
+    go false false false = refl
