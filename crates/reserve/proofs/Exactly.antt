@@ -14,7 +14,6 @@ use Rattle.trace.specs.Answers.{runNumber, runSample}
 use Rattle.trace.specs.declared.RunAnswer.{RunAnswer}
 use Rattle.trace.proofs.Runs as runs
 use Rattle.vote.specs.Answers.{numberOf}
-use Rattle.vote.specs.Vote as vote
 use Rattle.vote.proofs.Exactly.{none-refused as vote-none-refused}
 use Rattle.reserve.specs.declared.Phase.{Phase}
 use Rattle.reserve.specs.declared.Phase.the-variants.{Primary, TakingOver, Reserve as Reserved}

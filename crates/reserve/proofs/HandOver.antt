@@ -1,15 +1,14 @@
 -- The hand-over: Primary, TakingOver for one step, Reserve for ever; no alarm at the step of hand-over; and from then on, what
 -- units 1 and 2 show influences no answer and no state.
-use mathlib.Core.Path.{_≡_, refl, sym, ap, _∙_}
+use mathlib.Core.Path.{_≡_, refl, ap, _∙_}
 use mathlib.Core.Logic.{_↔_}
 use mathlib.Core.List.{List}
 use mathlib.Core.Bool.{Bool, true, false, false≢true}
-use Prim.Native.Nat.{ℕ, _+_, _-_}
+use Prim.Native.Nat.{ℕ}
 use native.Mathlib.Omega.{arith}
-use lib.Dec.{ltb, eqb}
+use lib.Dec.{eqb}
 use Rattle.rules.specs.Choose.{if_then_else_}
 use Rattle.rules.specs.Table.{first, answer}
-use Rattle.trace.specs.Samples.{outsideFour}
 use Rattle.trace.proofs.Steps.{alike}
 use Rattle.vote.specs.Answers.{markOf}
 use Rattle.vote.specs.Vote as vote
@@ -20,7 +19,6 @@ use Rattle.reserve.specs.HandOver.{handedOver, Alike, AllAlike}
 use Rattle.reserve.specs.declared.Phase.{Phase}
 use Rattle.reserve.specs.declared.Phase.the-variants.{Primary, TakingOver, Reserve as Reserved}
 use Rattle.reserve.specs.declared.Reserve.{Reserve}
-use Rattle.reserve.specs.declared.ReserveStep.{ReserveStep}
 use Rattle.reserve.specs.Reserve.{phaseAfter, inPhase, clauses, notTaken, stepOf, rowsOf}
 use Rattle.reserve.specs.Run.{leaves, Sample, stepped, publicStep, steps, publicSteps, shownMark}
 

@@ -15,7 +15,6 @@ use Rattle.trace.specs.declared.RunAnswer.the-variants.{Done}
 use Rattle.trace.proofs.Runs.{answer-done}
 use Rattle.trace.proofs.Samples.{nowhere}
 use Rattle.trace.proofs.Steps.{agree}
-use Rattle.vote.specs.Vote as vote
 use Rattle.vote.proofs.Stepwise.{Sound}
 use Rattle.vote.proofs.Stepwise as vote-steps
 use Rattle.reserve.specs.declared.Phase.{Phase}

@@ -1,7 +1,7 @@
 -- The reserve vote over two pairs: document 000, definition 17, as document 01 has it. Whole words are compared.
 use Prim.Native.Nat.{ℕ}
 use mathlib.Core.List.{List}
-use mathlib.Core.Bool.{Bool, true, false, _||_}
+use mathlib.Core.Bool.{true, false, _||_}
 use Rattle.rules.specs.Limits.{badCount, outside}
 use Rattle.rules.specs.Table.{Row, first, answer}
 use Rattle.rules.specs.Refusals.{makeRows, stepRows}

@@ -8,6 +8,10 @@ use Rattle.confirm.specs.Confirm.{fresh}
 use Rattle.confirm.specs.Run.{steps, shownWord, shownMark, shownCount, answerOf}
 use Rattle.sizing.specs.Sizing.{sizingOf, notSized}
 use Rattle.threshold.specs.Threshold.{thresholdOf}
+use Rattle.vote.specs.Vote as vote
+use Rattle.vote.specs.Run as votes
+use Rattle.reserve.specs.Reserve as reserve
+use Rattle.reserve.specs.Run as reserves
 use Rattle.threshold.specs.declared.Threshold.the-variants.{Agreed, Alarm}
 
 -- a line of a listing of confirmation: the sample, the output word, the mark, the count after the step
@@ -31,13 +35,40 @@ abbrev pub countOf : Line → ℕ
 countOf (x shows w C k) = k
 countOf (x shows w H k) = k
 
+-- a line of a listing of a vote: what the units show, the mark, the word
+infix 70 _agreed_ _held_ _alarm_
+pub data VoteLine (X : Type 0) : Type 0 where
+  _agreed_ _held_ _alarm_ : X → ℕ → VoteLine X
+
+abbrev pub seenIn : {X : Type 0} → VoteLine X → X
+seenIn (x agreed w) = x
+seenIn (x held w) = x
+seenIn (x alarm w) = x
+
+abbrev pub wordIn : {X : Type 0} → VoteLine X → ℕ
+wordIn (x agreed w) = w
+wordIn (x held w) = w
+wordIn (x alarm w) = w
+
+abbrev pub markIn : {X : Type 0} → VoteLine X → ℕ
+markIn (x agreed w) = 0
+markIn (x held w) = 1
+markIn (x alarm w) = 2
+
+-- what one unit shows
+abbrev pub column : {X : Type 0} → (X → ℕ) → List (VoteLine X) → List ℕ
+column {X} unit = map (λ (l : VoteLine X). unit (seenIn l))
+
 infix 70 sizing-n_Tm_TM_D_gives-N_age:_gap:_ count-n_Tm_TM_D_is_ sizing-n_Tm_TM_D_refused_
-infix 70 confirm-n_N_from_lists_ readings_and_and_tolerance_agreed_ readings_and_and_tolerance_alarm
+infix 70 confirm-n_N_from_lists_ vote-n_N_from_lists_ reserve-n_N_from_lists_
+infix 70 readings_and_and_tolerance_agreed_ readings_and_and_tolerance_alarm
 pub data Row : Type 0 where
   sizing-n_Tm_TM_D_gives-N_age:_gap:_ : ℕ → ℕ → ℕ → ℕ → ℕ → ℕ → ℕ → Row
   count-n_Tm_TM_D_is_ : ℕ → ℕ → ℕ → ℕ → ℕ → Row
   sizing-n_Tm_TM_D_refused_ : ℕ → ℕ → ℕ → ℕ → ℕ → Row
   confirm-n_N_from_lists_ : ℕ → ℕ → ℕ → List Line → Row
+  vote-n_N_from_lists_ : ℕ → ℕ → ℕ → List (VoteLine (ℕ × ℕ)) → Row
+  reserve-n_N_from_lists_ : ℕ → ℕ → ℕ → List (VoteLine reserves.Sample) → Row
   readings_and_and_tolerance_agreed_ : Float → Float → Float → Float → Float → Row
   readings_and_and_tolerance_alarm : Float → Float → Float → Float → Row
 
@@ -50,6 +81,14 @@ Holds (confirm-n n N need from word lists lines) =
     × (map shownWord (steps (fresh n need word) (map sampleOf lines)) ≡ map outputOf lines)
     × (map shownMark (steps (fresh n need word) (map sampleOf lines)) ≡ map markOf lines)
     × (map shownCount (steps (fresh n need word) (map sampleOf lines)) ≡ map countOf lines)
+Holds (vote-n n N need from word lists lines) =
+    (votes.answerOf n need word (column (λ x. x .0) lines) (column (λ x. x .1) lines) (map wordIn lines) (map markIn lines) ≡ Done)
+    × (map votes.shownWord (votes.steps (vote.fresh n need word) (map seenIn lines)) ≡ map wordIn lines)
+    × (map votes.shownMark (votes.steps (vote.fresh n need word) (map seenIn lines)) ≡ map markIn lines)
+Holds (reserve-n n N need from word lists lines) =
+    (reserves.answerOf n need word (column (λ x. x .0 .0) lines) (column (λ x. x .0 .1) lines) (column (λ x. x .1 .0) lines) (column (λ x. x .1 .1) lines) (map wordIn lines) (map markIn lines) ≡ Done)
+    × (map reserves.shownWord (reserves.steps (reserve.fresh n need word) (map seenIn lines)) ≡ map wordIn lines)
+    × (map reserves.shownMark (reserves.steps (reserve.fresh n need word) (map seenIn lines)) ≡ map markIn lines)
 Holds (readings x1 and x2 and x3 tolerance t agreed m) = thresholdOf (record { x1 = x1; x2 = x2; x3 = x3; tolerance = t }) ≡ Agreed m
 Holds (readings x1 and x2 and x3 tolerance t alarm) = thresholdOf (record { x1 = x1; x2 = x2; x3 = x3; tolerance = t }) ≡ Alarm
 

@@ -8,13 +8,12 @@ use lib.ListN.{length}
 use lib.Dec.{ltb, eqb}
 use Rattle.rules.specs.Choose.{if_then_else_}
 use Rattle.rules.specs.Limits.{badCount, tooLong, differ}
-use Rattle.rules.specs.Table.{first, Given, numbered}
+use Rattle.rules.specs.Table.{Given, numbered}
 use Rattle.rules.specs.Refusals.{makeRows, runRows}
 use Rattle.rules.proofs.Tables.{exactly-when}
 use Rattle.trace.specs.Samples.{somewhere, Smallest, outsidePair}
-use Rattle.trace.specs.Answers.{runNumber, runSample, runAnswer}
+use Rattle.trace.specs.Answers.{runNumber, runSample}
 use Rattle.trace.specs.declared.RunAnswer.{RunAnswer}
-use Rattle.trace.specs.declared.RunAnswer.the-variants.{Done}
 use Rattle.trace.proofs.Runs as runs
 use Rattle.vote.specs.declared.Vote.{Vote}
 use Rattle.vote.specs.declared.VoteMade.{VoteMade}

@@ -1,5 +1,5 @@
 -- `trace::judge` meets its contract: the two ways to answer are those of `Runs`.
-use mathlib.Core.Path.{_≡_, refl, sym, _∙_}
+use mathlib.Core.Path.{refl, sym, _∙_}
 use mathlib.Core.Bool.{false}
 use lib.ListN.{length}
 use borrow.Author.Tests.{ltb-false}

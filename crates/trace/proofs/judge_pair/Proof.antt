@@ -1,5 +1,5 @@
 -- `trace::judge_pair` meets its contract: as `judge`, over the samples of both columns.
-use mathlib.Core.Path.{_≡_, sym, _∙_}
+use mathlib.Core.Path.{sym, _∙_}
 use Rattle.trace.proofs.Pairs.{pair-few, pair-sampled}
 use Rattle.trace.proofs.Runs.{refused-early}
 use Rattle.trace.proofs.judge_pair.Statement.{statement}
