@@ -1,9 +1,11 @@
 // Reads calls from standard input, one a line, makes each on the library, and prints its answer, with every state and lent
 // slice, as one line. The calls and the answers that are expected come from second/, whose page says how a line is written.
 mod confirms;
+mod reserves;
 mod runs;
 mod sizings;
 mod thresholds;
+mod votes;
 
 // More lines than any input has, so that the program ends.
 const MOST_CALLS: u32 = 1000000;
@@ -12,7 +14,11 @@ const MOST_CALLS: u32 = 1000000;
 fn answer_call(name: &mut [u8]) -> bool {
     let len = lines::input::name(name);
     let called = &name[..len];
-    confirms::answer(called) || sizings::answer(called) || thresholds::answer(called)
+    confirms::answer(called)
+        || sizings::answer(called)
+        || thresholds::answer(called)
+        || votes::answer(called)
+        || reserves::answer(called)
 }
 
 fn main() {
