@@ -1,4 +1,5 @@
 -- Each number of each call is given exactly when its table says so; `Readings` of rules reads the tables out, number by number.
+-- `new` is `from_word` of the default word.
 use mathlib.Core.Path.{_≡_, refl}
 use mathlib.Core.Logic.{_↔_}
 use mathlib.Core.List.{List}

@@ -1,15 +1,16 @@
 -- The hand-over: Primary, TakingOver for one step, Reserve for ever; no alarm at the step of hand-over; and from then on, what
--- units 1 and 2 show influences no answer and no state.
-use mathlib.Core.Path.{_≡_, refl, ap, _∙_}
+-- units 1 and 2 show influences no answer and no state. The phases are those that the clauses leave; a refused step leaves its
+-- state as it came.
+use mathlib.Core.Path.{_≡_, refl, sym, ap, _∙_}
 use mathlib.Core.Logic.{_↔_}
-use mathlib.Core.List.{List}
+use mathlib.Core.List.{List, _++_}
 use mathlib.Core.Bool.{Bool, true, false, false≢true}
 use Prim.Native.Nat.{ℕ}
 use native.Mathlib.Omega.{arith}
 use lib.Dec.{eqb}
 use Rattle.rules.specs.Choose.{if_then_else_}
-use Rattle.rules.specs.Table.{first, answer}
-use Rattle.trace.proofs.Steps.{alike}
+use Rattle.rules.specs.Table.{first}
+use Rattle.trace.proofs.Steps.{alike, trace-append}
 use Rattle.vote.specs.Answers.{markOf}
 use Rattle.vote.specs.Vote as vote
 use Rattle.vote.specs.declared.VoteAnswer.{VoteAnswer}
@@ -19,8 +20,9 @@ use Rattle.reserve.specs.HandOver.{handedOver, Alike, AllAlike}
 use Rattle.reserve.specs.declared.Phase.{Phase}
 use Rattle.reserve.specs.declared.Phase.the-variants.{Primary, TakingOver, Reserve as Reserved}
 use Rattle.reserve.specs.declared.Reserve.{Reserve}
+use Rattle.reserve.specs.declared.ReserveStep.{ReserveStep}
 use Rattle.reserve.specs.Reserve.{phaseAfter, inPhase, clauses, notTaken, stepOf, rowsOf}
-use Rattle.reserve.specs.Run.{leaves, Sample, stepped, publicStep, steps, publicSteps, shownMark}
+use Rattle.reserve.specs.Run.{leaves, Sample, stepped, publicStep, steps, publicSteps, leftBy, leftByPublic, shownMark}
 
 -- the three phases in their order
 abbrev place : Phase → ℕ
@@ -87,11 +89,12 @@ same-width s x = go (s .phase) where
   go TakingOver = vote-width (s .vote) (x .1 .0) (x .1 .1) true
   go Reserved = vote-width (s .vote) (x .1 .0) (x .1 .1) false
 
--- a public step, refused ones too, keeps the width and goes back to Primary never
+-- a state after a hand-over
 record After (n : ℕ) (s : Reserve) : Type 0 where
   width : s .vote .n ≡ n
   over : handedOver (s .phase) ≡ true
 
+-- a public step leaves such a state again, refused ones too
 stays-over : (n : ℕ) (s : Reserve) (x : Sample) → After n s → After n (leaves (publicStep s x))
 unfolding stepOf
 stays-over n s x g = go (eqb (first (rowsOf s (x .0 .0) (x .0 .1) (x .1 .0) (x .1 .1))) 0) where
@@ -99,7 +102,7 @@ stays-over n s x g = go (eqb (first (rowsOf s (x .0 .0) (x .0 .1) (x .1 .0) (x .
   go true = record { width = same-width s x ∙ g .width; over = ap handedOver (then-reserve s x (g .over)) }
   go false = g
 
--- runs of any length, by the clauses and by the public steps: every answer and every state
+-- traces of any length from such a state, by the clauses and by the public steps: every answer and every state
 module _ (s : Reserve) (xs ys : List Sample) (h : handedOver (s .phase) ≡ true) (a : AllAlike (s .vote .n) xs ys) where
   pub unseen-steps : steps s xs ≡ steps s ys
   unseen-steps =
@@ -112,3 +115,21 @@ module _ (s : Reserve) (xs ys : List Sample) (h : handedOver (s .phase) ≡ true
       alike publicStep publicStep leaves (After (s .vote .n)) (Alike (s .vote .n))
       (λ t x y g l. unseen-step t x y (g .over) (rw (g .width) l)) (λ t x y g l. stays-over (s .vote .n) t x g)
       ((0, 0), (0, 0)) s xs ys (record { width = refl; over = h }) (a .lengths) (a .each)
+
+-- and so runs of any length from any state: what was seen before the hand-over is the same, what units 1 and 2 show after it is not
+module _ (s : Reserve) (before xs ys : List Sample) where
+  pub unseen-run :
+      handedOver (leftBy s before .phase) ≡ true → AllAlike (leftBy s before .vote .n) xs ys
+      → steps s (before ++ xs) ≡ steps s (before ++ ys)
+  unseen-run h a =
+      trace-append stepped leaves s before xs
+      ∙ ap (λ (l : List ReserveStep). steps s before ++ l) (unseen-steps (leftBy s before) xs ys h a)
+      ∙ sym (trace-append stepped leaves s before ys)
+
+  pub unseen-public-run :
+      handedOver (leftByPublic s before .phase) ≡ true → AllAlike (leftByPublic s before .vote .n) xs ys
+      → publicSteps s (before ++ xs) ≡ publicSteps s (before ++ ys)
+  unseen-public-run h a =
+      trace-append publicStep leaves s before xs
+      ∙ ap (λ (l : List ReserveStep). publicSteps s before ++ l) (unseen-public-steps (leftByPublic s before) xs ys h a)
+      ∙ sym (trace-append publicStep leaves s before ys)

@@ -5,7 +5,7 @@ use mathlib.Core.List.{List, map, zip}
 use mathlib.Core.Bool.{Bool, _||_}
 use lib.ListN.{length}
 use Rattle.rules.specs.Limits.{badCount, differ}
-use Rattle.trace.specs.Trace.{trace}
+use Rattle.trace.specs.Trace.{trace, left}
 use Rattle.trace.specs.Answers.{fourAnswer, after}
 use Rattle.trace.specs.declared.RunAnswer.{RunAnswer}
 use Rattle.vote.specs.Answers.{wordOf, markOf}
@@ -38,6 +38,13 @@ steps = trace stepped leaves
 
 abbrev pub publicSteps : Reserve → List Sample → List ReserveStep
 publicSteps = trace publicStep leaves
+
+-- the state that they leave
+abbrev pub leftBy : Reserve → List Sample → Reserve
+leftBy = left stepped leaves
+
+abbrev pub leftByPublic : Reserve → List Sample → Reserve
+leftByPublic = left publicStep leaves
 
 abbrev pub samplesOf : List ℕ → List ℕ → List ℕ → List ℕ → List Sample
 samplesOf a b c d = zip (zip a b) (zip c d)

@@ -118,12 +118,12 @@ impl Reserve {
         ensures { λ r. ⌜ r ≡ stepOf self a b c d ⌝ }
     {
         let vote = self.vote;
-        let primary = rules::outside(vote.n, a) | rules::outside(vote.n, b);
-        let reserve = rules::outside(vote.n, c) | rules::outside(vote.n, d);
+        let outside_first = rules::outside(vote.n, a) | rules::outside(vote.n, b);
+        let outside_second = rules::outside(vote.n, c) | rules::outside(vote.n, d);
         let refusal = rules::step_refusal(
             rules::bad_count(vote.need),
             vote.n,
-            primary | reserve,
+            outside_first | outside_second,
             vote.bad_state(),
         );
         if refusal != 0 {

@@ -14,7 +14,7 @@ use Rattle.reserve.specs.Reserve as reserve
 use Rattle.reserve.specs.Run as reserves
 use Rattle.threshold.specs.declared.Threshold.the-variants.{Agreed, Alarm}
 
--- a line of a listing of confirmation: the sample, the output word, the mark, the count after the step
+-- a line of a listing of confirmation: the sample's word, the output word, the mark, the count after the step
 infix 70 _shows_C_ _shows_H_
 pub data Line : Type 0 where
   _shows_C_ _shows_H_ : ℕ → ℕ → ℕ → Line
@@ -72,6 +72,7 @@ pub data Row : Type 0 where
   readings_and_and_tolerance_agreed_ : Float → Float → Float → Float → Float → Row
   readings_and_and_tolerance_alarm : Float → Float → Float → Float → Row
 
+-- a run is lent slices of the right lengths; what they hold before does not matter
 abbrev pub Holds : Row → Type 0
 Holds (sizing-n n Tm tm TM tM D d gives-N need age: old gap: quiet) = sizingOf n tm tM d ≡ record { refusal = 0; count = need; age = old; quiet = quiet }
 Holds (count-n n Tm tm TM tM D d is need) = sizingOf n tm tM d .count ≡ need

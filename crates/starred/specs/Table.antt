@@ -1,4 +1,5 @@
--- The starred examples of document 01, in its order; the one claim, `Every table`, is `starred` in proofs/.
+-- The starred examples of document 01, in its order; the one claim, `Every table`, is `starred` in proofs/. Where an example names
+-- no n, initial word or words, they are chosen: n 1 for the sizings, n 3, 0, and 5 and 7 for the votes.
 use mathlib.Core.List.{List, [], _∷_}
 use Rattle.starred.specs.Floats.{−0, 0·0, 0·5, 1·0, 2·0, 3·0}
 use Prim.Native.Nat.{ℕ}
@@ -8,7 +9,7 @@ use Rattle.starred.specs.Rows.{_shows_C_, _shows_H_, _agreed_, _held_, _
 use Rattle.starred.specs.Rows.{sizing-n_Tm_TM_D_gives-N_age:_gap:_, count-n_Tm_TM_D_is_, sizing-n_Tm_TM_D_refused_, confirm-n_N_from_lists_, vote-n_N_from_lists_, reserve-n_N_from_lists_}
 use Rattle.starred.specs.Rows.{readings_and_and_tolerance_agreed_, readings_and_and_tolerance_alarm}
 
--- "One unit, n 2, N 2, initial word 0, samples 0 1 1 3 3 3"
+-- "One unit, n 2, N 2, initial word 0, samples 0 1 1 3 3 3", as what its run writes
 abbrev pub listing : List Line
 listing =
     0 shows 0 H 1 ∷

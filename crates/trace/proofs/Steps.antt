@@ -1,11 +1,11 @@
 -- Two runs are equal where their steps agree on good states and alike samples and a good state stays good. So a run that tests
 -- nothing at each sample equals the public steps that test everything, and what no step looks at changes no run.
 use mathlib.Core.Path.{_≡_, refl, ap}
-use mathlib.Core.List.{List, [], _∷_}
+use mathlib.Core.List.{List, [], _∷_, _++_}
 use Prim.Native.Nat.{ℕ, suc, _<_}
 use native.Mathlib.Omega.{arith}
 use lib.ListN.{length, getD}
-use Rattle.trace.specs.Trace.{trace}
+use Rattle.trace.specs.Trace.{trace, left}
 
 module _ {S X T : Type 0} (core step : S → X → T) (next : T → S) (Good : S → Type 0) where
   pub alike :
@@ -34,3 +34,11 @@ module _ {S X T : Type 0} (core step : S → X → T) (next : T → S) (Good : S
   agree Fine same keeps d s xs g fine =
       alike (λ (x y : X). Fine x × (x ≡ y)) (λ s x y g like. rw (← like .1) (same s x g (like .0))) (λ s x y g like. keeps s x g (like .0))
       d s xs xs g refl (λ i h. (fine i h, refl))
+
+-- a run goes on from the state that its first part left
+pub trace-append :
+    {S X T : Type 0} (step : S → X → T) (next : T → S) (s : S) (xs ys : List X)
+    → trace step next s (xs ++ ys) ≡ trace step next s xs ++ trace step next (left step next s xs) ys
+unfolding trace left
+trace-append step next s [] ys = refl
+trace-append step next s (x ∷ xs) ys = rw (trace-append step next (next (step s x)) xs ys)

@@ -49,7 +49,7 @@ fn run_refusal(miscounted: bool, n: u32, word: u32, long: bool, unequal: bool) -
     rules::or_else(r, 5, rules::outside(n, word))
 }
 
-// Some sample is outside the width exactly when the OR of all is, which wide code finds.
+// Some sample is outside the width exactly when the OR of all is; a loop without a branch becomes wide code.
 fn some_outside(n: u32, samples: &[u32]) -> bool
     ensures { λ r. ⌜ r ≡ somewhere (outside n) (now (samples .entry)) ⌝ }
 {

@@ -1,4 +1,4 @@
--- When the plain vote alarms: from a fresh state, at a sample exactly when it and the N−1 samples before it exist and all
+-- When the plain vote alarms: from a fresh state with N at least 1, at a sample exactly when it and the N−1 samples before it exist and all
 -- disagree. The count is the length of the row of disagreements so far, at most N−1.
 use mathlib.Core.Path.{_≡_, refl, sym, _∙_}
 use mathlib.Core.Logic.{_↔_, dite}
@@ -15,7 +15,8 @@ use Rattle.trace.specs.Trace.{trace}
 use Rattle.vote.specs.declared.Vote.{Vote}
 use Rattle.vote.specs.Alarms.{equal, Disagreeing}
 use Rattle.vote.specs.Run.{plain, leaves, steps, shownMark}
-use Rattle.vote.specs.Vote.{fresh, agreed, held, alarm, clauses}
+use Rattle.vote.specs.Vote.{fresh, clauses}
+use Rattle.vote.proofs.Clauses.{byTests}
 
 -- the row of disagreements that goes on after a sample, and the one that ends with sample i, after d before the trace
 abbrev on : ℕ → ℕ × ℕ → ℕ
@@ -37,7 +38,7 @@ module _ (need : ℕ) (some : 1 ≤ need) where
   counts-on d s x c = go (equal x) (ltb (s .count) (s .need - 1)) refl where
     go :
         (p r : Bool) → ltb (s .count) (s .need - 1) ≡ r
-        → Counts (if p then 0 else suc d) ((if p then agreed s (x .0) else if false then held s 0 else if r then held s (s .count + 1) else alarm s) .state)
+        → Counts (if p then 0 else suc d) (byTests s (x .0) p false r .state)
     go true r q = record { needs = c .needs; counted = omega arith }
     go false true q = record { needs = c .needs; counted = omega (arith, c .needs, c .counted, ltb-true (s .count) (s .need - 1) q) }
     go false false q = record { needs = c .needs; counted = omega (arith, c .needs, c .counted, ltb-false (s .count) (s .need - 1) q) }
@@ -47,7 +48,7 @@ module _ (need : ℕ) (some : 1 ≤ need) where
   alarms-now d s x c = go (equal x) (ltb (s .count) (s .need - 1)) refl where
     go :
         (p r : Bool) → ltb (s .count) (s .need - 1) ≡ r
-        → (shownMark (if p then agreed s (x .0) else if false then held s 0 else if r then held s (s .count + 1) else alarm s) ≡ 2)
+        → (shownMark (byTests s (x .0) p false r) ≡ 2)
         ↔ (need ≤ (if p then 0 else suc d))
     go true r q = (λ e. absurd (omega arith), λ h. absurd (omega arith))
     go false true q = (λ e. absurd (omega arith), λ h. absurd (omega (arith, c .needs, c .counted, ltb-true (s .count) (s .need - 1) q)))
@@ -91,7 +92,7 @@ module _ (need : ℕ) (some : 1 ≤ need) where
       joined l zero le m = e
       joined l (suc j) le m = l .apart j (omega arith) (omega arith)
 
--- the theorem, of every trace from a fresh state
+-- the theorem, of every trace from a fresh state; N 0 is refused by every call
 pub alarm-exactly :
     (n need word : ℕ) → 1 ≤ need → (xs : List (ℕ × ℕ)) (i : ℕ) → i < length xs
     → (getD (map shownMark (steps (fresh n need word) xs)) i 255 ≡ 2) ↔ Disagreeing need xs i

@@ -8,9 +8,18 @@ use lib.Dec.{ltb, eqb}
 use borrow.Author.Tests.{eq-eqb}
 use Rattle.rules.specs.Choose.{if_then_else_}
 use Rattle.vote.specs.declared.Vote.{Vote}
+use Rattle.vote.specs.declared.VoteStep.{VoteStep}
 use Rattle.vote.specs.declared.VoteAnswer.the-variants.{Agreed}
 use Rattle.vote.specs.Run.{shownWord, shownMark}
 use Rattle.vote.specs.Vote.{agreed, held, alarm, clauses}
+
+-- the clauses, of any three tests
+abbrev pub byTests : Vote → ℕ → Bool → Bool → Bool → VoteStep
+byTests s a equal reset waiting =
+    if equal then agreed s a else
+    if reset then held s 0 else
+    if waiting then held s (s .count + 1) else
+    alarm s
 
 module _ (s : Vote) where
   -- whatever came before, equal words agree
@@ -29,8 +38,8 @@ module _ (s : Vote) where
   unfolding clauses
   last-agreed a b reset = go (eqb a b) reset (ltb (s .count) (s .need - 1)) where
     go :
-        (p q r : Bool) → let t = if p then agreed s a else if q then held s 0 else if r then held s (s .count + 1) else alarm s in
-        (shownMark t ≡ 0 → ⊥) → (shownWord t ≡ s .word) × (t .state .word ≡ s .word)
+        (p q r : Bool) → (shownMark (byTests s a p q r) ≡ 0 → ⊥)
+        → (shownWord (byTests s a p q r) ≡ s .word) × (byTests s a p q r .state .word ≡ s .word)
     go true q r h = absurd (h refl)
     go false true r h = (refl, refl)
     go false false true h = (refl, refl)
@@ -39,7 +48,7 @@ module _ (s : Vote) where
   pub same-width : (a b : ℕ) (reset : Bool) → clauses s a b reset .state .n ≡ s .n
   unfolding clauses
   same-width a b reset = go (eqb a b) reset (ltb (s .count) (s .need - 1)) where
-    go : (p q r : Bool) → (if p then agreed s a else if q then held s 0 else if r then held s (s .count + 1) else alarm s) .state .n ≡ s .n
+    go : (p q r : Bool) → byTests s a p q r .state .n ≡ s .n
     go true q r = refl
     go false true r = refl
     go false false true = refl

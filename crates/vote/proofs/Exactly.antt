@@ -1,12 +1,12 @@
 -- Each number of each call is given exactly when its table says so; `Readings` of rules reads the tables out, number by number.
+-- `new` is `from_word` of the default word.
 use mathlib.Core.Path.{_≡_, refl}
 use mathlib.Core.Logic.{_↔_}
 use mathlib.Core.List.{List, zip}
 use mathlib.Core.Bool.{Bool, true, false, _||_}
-use Prim.Native.Nat.{ℕ, _+_, _-_}
+use Prim.Native.Nat.{ℕ, _-_}
 use lib.ListN.{length}
 use lib.Dec.{ltb, eqb}
-use Rattle.rules.specs.Choose.{if_then_else_}
 use Rattle.rules.specs.Limits.{badCount, tooLong, differ}
 use Rattle.rules.specs.Table.{Given, numbered}
 use Rattle.rules.specs.Refusals.{makeRows, runRows}
@@ -19,8 +19,9 @@ use Rattle.vote.specs.declared.Vote.{Vote}
 use Rattle.vote.specs.declared.VoteMade.{VoteMade}
 use Rattle.vote.specs.declared.VoteStep.{VoteStep}
 use Rattle.vote.specs.Answers.{numberOf}
-use Rattle.vote.specs.Vote.{agreed, held, alarm, clauses, made, notMade, madeOf, rowsOf, notTaken, stepOf}
+use Rattle.vote.specs.Vote.{clauses, made, notMade, madeOf, rowsOf, notTaken, stepOf}
 use Rattle.vote.specs.Run.{unequal, answerOf}
+use Rattle.vote.proofs.Clauses.{byTests}
 
 pub from-word-exactly : (n need word k : ℕ) → (madeOf n need word .refusal ≡ k) ↔ Given k (makeRows (badCount need) n word)
 unfolding madeOf numbered
@@ -30,7 +31,7 @@ from-word-exactly n need word = exactly-when (λ (m : VoteMade). m .refusal) (ma
 pub none-refused : (s : Vote) (a b : ℕ) (reset : Bool) → numberOf (clauses s a b reset .answer) ≡ 0
 unfolding clauses
 none-refused s a b reset = go (eqb a b) reset (ltb (s .count) (s .need - 1)) where
-  go : (p q r : Bool) → numberOf ((if p then agreed s a else if q then held s 0 else if r then held s (s .count + 1) else alarm s) .answer) ≡ 0
+  go : (p q r : Bool) → numberOf (byTests s a p q r .answer) ≡ 0
   go true q r = refl
   go false true r = refl
   go false false true = refl

@@ -7,7 +7,6 @@ use native.Mathlib.Omega.{arith}
 use lib.ListN.{length}
 use lib.Dec.{ltb, eqb}
 use borrow.Author.Tests.{le-ltb, ltb-true}
-use Rattle.rules.specs.Choose.{if_then_else_}
 use Rattle.rules.specs.Limits.{badCount, badWidth, tooLong, differ, outside}
 use Rattle.rules.specs.Table.{first}
 use Rattle.rules.proofs.Readings.{Runs}
@@ -18,8 +17,9 @@ use Rattle.trace.proofs.Runs.{answer-done}
 use Rattle.trace.proofs.Samples.{nowhere}
 use Rattle.trace.proofs.Steps.{agree}
 use Rattle.vote.specs.declared.Vote.{Vote}
-use Rattle.vote.specs.Vote.{fresh, agreed, held, alarm, clauses, made, madeOf, stepOf}
+use Rattle.vote.specs.Vote.{fresh, clauses, made, madeOf, stepOf}
 use Rattle.vote.specs.Run.{leaves, plain, publicPlain, steps, publicSteps, shownWord, shownMark, unequal, answerOf, Ran, Stepwise}
+use Rattle.vote.proofs.Clauses.{byTests}
 
 -- a state of width n that a step takes
 pub record Sound (n : ℕ) (s : Vote) : Type 0 where
@@ -41,7 +41,7 @@ sound-next n s a b reset g e = go (eqb a b) reset (ltb (s .count) (s .need - 1))
   kept : (word count : ℕ) → outside n word ≡ false → count ≤ s .need - 1 → Sound n (record { n = s .n; need = s .need; word = word; count = count })
   kept word count o h = record { width = g .width; counted = g .counted; wide = g .wide; small = h; word-in = o }
 
-  go : (p q r : Bool) → ltb (s .count) (s .need - 1) ≡ r → Sound n ((if p then agreed s a else if q then held s 0 else if r then held s (s .count + 1) else alarm s) .state)
+  go : (p q r : Bool) → ltb (s .count) (s .need - 1) ≡ r → Sound n (byTests s a p q r .state)
   go true q r h = kept a 0 (or-neither (outside n a) (outside n b) e .0) (omega arith)
   go false true r h = kept (s .word) 0 (g .word-in) (omega arith)
   go false false true h = kept (s .word) (s .count + 1) (g .word-in) (omega (arith, ltb-true (s .count) (s .need - 1) h))

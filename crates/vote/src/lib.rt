@@ -161,8 +161,8 @@ impl Vote {
     pub fn bad_state(self) -> bool
         ensures { λ r. ⌜ r ≡ badState self ⌝ }
     {
-        let word = rules::outside(self.n, self.word);
-        (self.count > rules::last(self.need)) | word
+        let outlying = rules::outside(self.n, self.word);
+        (self.count > rules::last(self.need)) | outlying
     }
 
     // One step. A refused one returns the state it got.
