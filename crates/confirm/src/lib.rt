@@ -152,7 +152,7 @@ impl Confirm {
     }
 
     // 7: the count is above N-1, or a stored word is outside the width.
-    fn bad_state(self) -> bool
+    pub fn bad_state(self) -> bool
         ensures { λ r. ⌜ r ≡ badState self ⌝ }
     {
         let input = rules::outside(self.n, self.input);

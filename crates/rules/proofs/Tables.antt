@@ -1,7 +1,7 @@
 -- The law of tables, for any chain of refusals: a number is given exactly when its row says so and no row before it does.
 use mathlib.Core.Path.{_≡_, refl, sym, _∙_}
 use mathlib.Core.Logic.{_↔_, _⊎_, inl, inr, ⊎-elim}
-use mathlib.Core.List.{List, [], _∷_, List·Memᴰ, List·Memᴰ·head, List·Memᴰ·tail, List·Memᴰ·not-nil}
+use mathlib.Core.List.{List, [], _∷_, _++_, List·Memᴰ, List·Memᴰ·head, List·Memᴰ·tail, List·Memᴰ·not-nil}
 use mathlib.Core.Bool.{Bool, true, false, _&&_, _||_, true≢false, false≢true}
 use Prim.Native.Nat.{ℕ, _<_, _≤_}
 use native.Mathlib.Omega.{arith}
@@ -116,3 +116,10 @@ stays r k = go (eqb r 0) refl where
   go : (b : Bool) → eqb r 0 ≡ b → (if b then 0 else r) ≡ r
   go true q = sym (eqb-true r 0 q)
   go false q = refl
+
+-- a table with one row more
+pub one-more : (rows : List Row) → numbered rows ≡ true → (k : ℕ) (b : Bool) → first (rows ++ (k when b ∷ [])) ≡ orElse (first rows) k b
+unfolding first numbered
+one-more [] u k b = refl
+one-more (j when true ∷ rows) u k b = let h = ltb-true 0 j (and-both (ltb 0 j) _ u .0) in rw (ne-eqb j 0 (λ e. omega arith))
+one-more (j when false ∷ rows) u k b = one-more rows (and-both (ltb 0 j) _ u .1) k b

@@ -1,0 +1,6 @@
+-- `Tuple::new` meets its contract.
+use Rattle.tuple.proofs.Tuple.new.Statement.{statement}
+use Rattle.tuple.proofs.Tuple.new.Tie as tie
+
+pub new-spec : {M : Type 1} → statement M
+new-spec = tie.close (tie.spec (λ _ _. tt) (λ _ _. tt) (λ c. rw (c .from-word .ensures, c .before .default-word .ensures)))

@@ -1,0 +1,66 @@
+-- `Tuple::step` meets its contract: with a refusal the state as it came, without one the clauses.
+use mathlib.Core.Path.{_≡_, refl, sym, _∙_}
+use mathlib.Core.Bool.{Bool, true, false, _||_}
+use Prim.Native.Nat.{ℕ, _≤_}
+use borrow.Author.Tests.{eq-eqb, ne-eqb}
+use native.Mathlib.Omega.{arith}
+use Rattle.rules.specs.Choose.{if_then_else_}
+use Rattle.rules.specs.Limits.{badCount, outside}
+use Rattle.rules.specs.Table.{first, numbered, orElse}
+use Rattle.rules.proofs.Ranges.{width-range}
+use Rattle.rules.proofs.Readings.{step-0}
+use Rattle.rules.proofs.Tables.{one-more, refuses, works}
+use Rattle.tuple.specs.declared.Tuple.{Tuple}
+use Rattle.tuple.specs.Tuple.{width, votersOf, clauses, badState, earlyRows, rowsOf, notTaken, stepOf}
+use Rattle.tuple.proofs.Tuple.step.Statement.{statement}
+use Rattle.tuple.proofs.Tuple.step.Tie as tie
+
+-- the table with its last row, 8
+last-row : (s : Tuple) (a b : ℕ) → first (rowsOf s a b) ≡ orElse (first (earlyRows s a b)) 8 (outside (width s) (votersOf s a b .word))
+unfolding numbered
+last-row s a b = one-more (earlyRows s a b) refl 8 (outside (width s) (votersOf s a b .word))
+
+module _ (s : Tuple) (a b : ℕ) (e : first (earlyRows s a b) ≡ 0) where
+  wide : width s ≤ 32
+  wide = width-range (width s) (step-0 (badCount (s .confirm .need)) (width s) (outside (width s) a || outside (width s) b) (badState s) .0 e .wide) .1
+
+  eight : (w : Bool) → outside (width s) (votersOf s a b .word) ≡ w → (if w then 8 else 0) ≡ first (rowsOf s a b)
+  eight w o = sym (last-row s a b ∙ rw (e, o))
+
+returns : tie.Need-returns
+unfolding stepOf
+returns c =
+    let s = c .before .before .before .args in
+    let r = c .before .before .early in
+    let found : r .result ≡ first (rowsOf (s .self) (s .a) (s .b)) = rw (last-row (s .self) (s .a) (s .b), ← r .ensures, ne-eqb _ _ (c .before .if1 .taken)) in
+    c .refused .ensures ∙ refuses (notTaken _) _ found (c .before .if1 .taken)
+
+voters-requires : tie.Need-voters-requires
+voters-requires c κs =
+    let s = c .before .before .args in
+    wide (s .self) (s .a) (s .b) (sym (c .before .early .ensures) ∙ c .if1 .left)
+
+-- what the test of the voted word has found
+found : (c : tie.After-outside) → let s = c .before .before .before .before .before .args in
+    (w : Bool) → c .outside .result ≡ w → (if w then 8 else 0) ≡ first (rowsOf (s .self) (s .a) (s .b))
+found c w h =
+    let tests = c .before .before .before in
+    let s = tests .before .before .args in
+    let none : first (earlyRows (s .self) (s .a) (s .b)) ≡ 0 = sym (tests .before .early .ensures) ∙ tests .if1 .left in
+    eight (s .self) (s .a) (s .b) none w (sym (c .outside .ensures ∙ rw (c .before .before .voters .ensures)) ∙ h)
+
+returns-2 : tie.Need-returns-2
+unfolding stepOf
+returns-2 c =
+    let s = c .before .before .before .before .before .before .before .args in
+    c .refused2 .ensures ∙ refuses (notTaken (s .self)) _ (found (c .before .before) true (c .before .if2 .taken)) (λ e. omega arith)
+
+returns-3 : tie.Need-returns-3
+unfolding stepOf clauses
+returns-3 c =
+    let s = c .before .before .before .before .before .before .before .args in
+    c .decided .ensures
+    ∙ rw (c .before .before .before .before .voters .ensures) (works (notTaken (s .self)) _ (found (c .before .before) false (c .before .if2 .left)) refl)
+
+pub step-spec : {M : Type 1} → statement M
+step-spec = tie.close (tie.spec (λ _ _. tt) (λ _ _. tt) returns voters-requires (λ _ _. tt) (λ _ _. tt) returns-2 (λ _ _. tt) returns-3)

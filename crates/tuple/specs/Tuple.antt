@@ -1,0 +1,122 @@
+-- The tuple vote: document 000, definition 15, as document 01 has it. Signal i of a word is its bit i.
+use Prim.Native.Nat.{ℕ, _-_}
+use mathlib.Core.List.{List, [], _∷_, _++_}
+use mathlib.Core.Bool.{Bool, false, not, _||_}
+use lib.Dec.{ltb, eqb}
+use lib.ListN.{getD, drop, replicate}
+use Rattle.rules.specs.Bits.{bit}
+use Rattle.rules.specs.Choose.{if_then_else_}
+use Rattle.rules.specs.Limits.{badCount, outside}
+use Rattle.rules.specs.Signals.{asWord, asList, someBelow}
+use Rattle.rules.specs.Table.{Row, _when_, first, answer}
+use Rattle.rules.specs.Refusals.{makeRows, stepRows}
+use Rattle.confirm.specs.Confirm as confirm
+use Rattle.confirm.specs.declared.ConfirmAnswer.{ConfirmAnswer}
+use Rattle.confirm.specs.declared.ConfirmAnswer.the-variants.{Confirmed as ConfirmedOne, Held as HeldOne, Refused as RefusedOne}
+use Rattle.confirm.specs.declared.ConfirmStep.{ConfirmStep}
+use Rattle.vote.specs.Vote as vote
+use Rattle.vote.specs.declared.Vote.{Vote}
+use Rattle.vote.specs.declared.VoteAnswer.{VoteAnswer}
+use Rattle.vote.specs.declared.VoteAnswer.the-variants.{Agreed as VoteAgreed, Held as VoteHeld, Alarm as VoteAlarm, Refused as VoteRefused}
+use Rattle.vote.specs.declared.VoteStep.{VoteStep}
+use Rattle.tuple.specs.declared.Tuple.{Tuple}
+use Rattle.tuple.specs.declared.TupleAnswer.{TupleAnswer}
+use Rattle.tuple.specs.declared.TupleAnswer.the-variants.{Confirmed, Held, Alarm, Refused}
+use Rattle.tuple.specs.declared.TupleMade.{TupleMade}
+use Rattle.tuple.specs.declared.TupleStep.{TupleStep}
+use Rattle.tuple.specs.declared.Voters.{Voters}
+
+-- the width, and the voters' N: the confirmation's
+abbrev pub width : Tuple → ℕ
+width s = s .confirm .n
+
+abbrev pub voteNeed : Tuple → ℕ
+voteNeed s = s .confirm .need
+
+-- fresh: a fresh confirmation, and each voter from its bit of the initial word
+abbrev pub fresh : ℕ → ℕ → ℕ → Tuple
+fresh n need word = record { confirm = confirm.fresh n need word; agreed = word; counts = replicate 32 0 }
+
+-- each signal has a plain vote of its own, of width 1, with the same N
+abbrev pub voterOf : ℕ → ℕ → ℕ → ℕ → Vote
+voterOf need agreed count i = record { n = 1; need = need; word = bit i agreed; count = count }
+
+abbrev pub voter : Tuple → ℕ → Vote
+voter s i = voterOf (voteNeed s) (s .agreed) (getD (s .counts) i 0) i
+
+abbrev pub signalVote : ℕ → ℕ → List ℕ → ℕ → ℕ → ℕ → VoteStep
+signalVote need agreed counts a b i = vote.clauses (voterOf need agreed (getD counts i 0) i) (bit i a) (bit i b) false
+
+-- a one where a voter alarms
+abbrev pub alarmBit : VoteAnswer → ℕ
+alarmBit (VoteAgreed w) = 0
+alarmBit (VoteHeld w) = 0
+alarmBit (VoteAlarm w) = 1
+alarmBit (VoteRefused k) = 0
+
+-- the voters of all signals step: the voted word, the alarm mask, and the counts; places at n and above stay
+abbrev pub voters : ℕ → ℕ → ℕ → List ℕ → ℕ → ℕ → Voters
+voters n need agreed counts a b =
+    record {
+      word = asWord n (λ i. signalVote need agreed counts a b i .state .word);
+      mask = asWord n (λ i. alarmBit (signalVote need agreed counts a b i .answer));
+      counts = asList n (λ i. signalVote need agreed counts a b i .state .count) ++ drop n counts;
+    }
+
+abbrev pub votersOf : Tuple → ℕ → ℕ → Voters
+votersOf s a b = voters (width s) (voteNeed s) (s .agreed) (s .counts) a b
+
+-- an alarm: the mask with the previous output; confirmation takes no step
+abbrev pub alarm : Tuple → Voters → TupleStep
+alarm s v = record { state = record { confirm = s .confirm; agreed = v .word; counts = v .counts }; answer = Alarm (s .confirm .output) (v .mask) }
+
+abbrev pub confirmedAs : ConfirmAnswer → TupleAnswer
+confirmedAs (ConfirmedOne w) = Confirmed w
+confirmedAs (HeldOne w) = Held w
+confirmedAs (RefusedOne k) = Refused k
+
+-- the voted word has taken a step of confirmation
+abbrev pub confirms : Voters → ConfirmStep → TupleStep
+confirms v t = record { state = record { confirm = t .state; agreed = v .word; counts = v .counts }; answer = confirmedAs (t .answer) }
+
+-- if any alarms, the alarm; otherwise the voted word takes a step of confirmation, with the same N. All voters step in either case
+abbrev pub decided : Tuple → Voters → TupleStep
+decided s v = if not (eqb (v .mask) 0) then alarm s v else confirms v (confirm.clauses (s .confirm) (v .word))
+
+unfoldable pub clauses : Tuple → ℕ → ℕ → TupleStep
+clauses s a b = decided s (votersOf s a b)
+
+-- a constructor; refused: the fresh state of n 1, N 1 and word zero
+abbrev pub made : ℕ → ℕ → ℕ → TupleMade
+made n need word = record { state = fresh n need word; refusal = 0 }
+
+abbrev pub notMade : ℕ → TupleMade
+notMade number = record { state = fresh 1 1 0; refusal = number }
+
+unfoldable pub madeOf : ℕ → ℕ → ℕ → TupleMade
+madeOf n need word = answer (first (makeRows (badCount need) n word)) notMade (made n need word)
+
+-- 7, of the place of signal i: a count above N-1, or, at n and above, a count that is not zero
+abbrev pub badPlace : ℕ → ℕ → ℕ → ℕ → Bool
+badPlace n need count i = if ltb i n then ltb (need - 1) count else ltb 0 count
+
+abbrev pub badPlaces : ℕ → ℕ → List ℕ → Bool
+badPlaces n need counts = someBelow 32 (λ i. badPlace n need (getD counts i 0) i)
+
+-- 7: a place, an agreed bit at n or above, or the confirmation's state
+abbrev pub badState : Tuple → Bool
+badState s = badPlaces (width s) (voteNeed s) (s .counts) || outside (width s) (s .agreed) || confirm.badState (s .confirm)
+
+abbrev pub earlyRows : Tuple → ℕ → ℕ → List Row
+earlyRows s a b = stepRows (badCount (s .confirm .need)) (width s) (outside (width s) a || outside (width s) b) (badState s)
+
+-- 8: the word put together for confirmation has a bit at n or above
+abbrev pub rowsOf : Tuple → ℕ → ℕ → List Row
+rowsOf s a b = earlyRows s a b ++ (8 when outside (width s) (votersOf s a b .word) ∷ [])
+
+-- a step; refused: the state as it came
+abbrev pub notTaken : Tuple → ℕ → TupleStep
+notTaken s number = record { state = s; answer = Refused number }
+
+unfoldable pub stepOf : Tuple → ℕ → ℕ → TupleStep
+stepOf s a b = answer (first (rowsOf s a b)) (notTaken s) (clauses s a b)

@@ -1,0 +1,414 @@
+// The tuple vote (document 000, definition 15): a plain vote for each signal, and a confirmation of the voted word.
+use confirm::Confirm;
+use confirm::ConfirmAnswer;
+use confirm::ConfirmStep;
+use trace::RunAnswer;
+use vote::Vote;
+use vote::VoteAnswer;
+use vote::VoteStep;
+ghost use mathlib.Core.Path.{_≡_};
+ghost use mathlib.Core.Bool.{false};
+ghost use mathlib.Core.List.{map, zip};
+ghost use lib.ListN.{length};
+ghost use Prim.Native.Nat.{_≤_, _<_, _+_, _*_, _^_};
+ghost use Rattle.rules.specs.Bits.{bit};
+ghost use Rattle.rules.specs.Limits.{defaultWord};
+ghost use Rattle.rules.specs.Table.{first};
+ghost use Rattle.vote.specs.Vote.{clauses as voteClauses};
+ghost use Rattle.tuple.specs.Answers.{numberOf, wordOf, maskOf, markOf};
+ghost use Rattle.tuple.specs.Tuple.{width, fresh, voterOf, alarmBit, voters, votersOf, alarm, confirmedAs, confirms, decided, clauses, madeOf, badPlace, badPlaces, badState, earlyRows, notTaken, stepOf};
+ghost use Rattle.tuple.specs.Run.{steps, shownWord, shownMask, shownMark, Ran};
+
+// The state of a tuple vote: the confirmation's state, which has n and N, the agreed signals as one word, and a count for each
+// signal; places at n and above are zero.
+pub struct Tuple {
+    pub confirm: Confirm,
+    pub agreed: u32,
+    pub counts: [u32; 32],
+}
+
+// A constructor's answer: refusal 0 is none.
+pub struct TupleMade {
+    pub state: Tuple,
+    pub refusal: u32,
+}
+
+// The word that is shown, on alarm the previous output beside the alarm mask, or a refusal's number.
+pub enum TupleAnswer {
+    Confirmed(u32),
+    Held(u32),
+    Alarm { word: u32, mask: u32 },
+    Refused(u32),
+}
+
+// A step's answer, beside the state that it leaves.
+pub struct TupleStep {
+    pub state: Tuple,
+    pub answer: TupleAnswer,
+}
+
+// What the voters of all signals leave at one sample.
+pub struct Voters {
+    pub word: u32,
+    pub mask: u32,
+    pub counts: [u32; 32],
+}
+
+impl TupleAnswer {
+    // The refusal's number, 0 for none.
+    pub fn number(self) -> u32
+        ensures { λ r. ⌜ r ≡ numberOf self ⌝ }
+    {
+        match self {
+            TupleAnswer::Confirmed(_) => 0,
+            TupleAnswer::Held(_) => 0,
+            TupleAnswer::Alarm { word: _, mask: _ } => 0,
+            TupleAnswer::Refused(k) => k,
+        }
+    }
+
+    // The word that is shown, 0 with a refusal.
+    pub fn word(self) -> u32
+        ensures { λ r. ⌜ r ≡ wordOf self ⌝ }
+    {
+        match self {
+            TupleAnswer::Confirmed(w) => w,
+            TupleAnswer::Held(w) => w,
+            TupleAnswer::Alarm { word, mask: _ } => word,
+            TupleAnswer::Refused(_) => 0,
+        }
+    }
+
+    // The signals that alarm, 0 for none.
+    pub fn mask(self) -> u32
+        ensures { λ r. ⌜ r ≡ maskOf self ⌝ }
+    {
+        match self {
+            TupleAnswer::Confirmed(_) => 0,
+            TupleAnswer::Held(_) => 0,
+            TupleAnswer::Alarm { word: _, mask } => mask,
+            TupleAnswer::Refused(_) => 0,
+        }
+    }
+
+    // The mark byte: 0 confirmed, 1 held, 2 alarm, 255 with a refusal.
+    pub fn mark(self) -> u8
+        ensures { λ r. ⌜ r ≡ markOf self ⌝ }
+    {
+        match self {
+            TupleAnswer::Confirmed(_) => 0,
+            TupleAnswer::Held(_) => 1,
+            TupleAnswer::Alarm { word: _, mask: _ } => 2,
+            TupleAnswer::Refused(_) => 255,
+        }
+    }
+}
+
+// Signal i of a word.
+fn signal(i: usize, w: u32) -> u32
+    requires { ⌜ i ≤ 31 ⌝ }
+    ensures { λ r. ⌜ r ≡ bit i w ⌝ }
+{
+    (w >> i) % 2
+}
+
+// The plain vote of signal i, by the vote's own clauses.
+fn vote_signal(need: u32, agreed: u32, count: u32, a: u32, b: u32, i: usize) -> VoteStep
+    requires { ⌜ i ≤ 31 ⌝ }
+    ensures { λ r. ⌜ r ≡ voteClauses (voterOf need agreed count i) (bit i a) (bit i b) false ⌝ }
+{
+    let voter = Vote {
+        n: 1,
+        need,
+        word: signal(i, agreed),
+        count,
+    };
+    voter.clauses(signal(i, a), signal(i, b), false)
+}
+
+// A one where a voter alarms.
+fn alarm_bit(answer: VoteAnswer) -> u32
+    ensures { λ r. ⌜ r ≡ alarmBit answer ⌝ }
+{
+    match answer {
+        VoteAnswer::Agreed(_) => 0,
+        VoteAnswer::Held(_) => 0,
+        VoteAnswer::Alarm(_) => 1,
+        VoteAnswer::Refused(_) => 0,
+    }
+}
+
+// Signal i, which is v, is put in front of the signals below it.
+fn put_signal(w: u32, v: u32, i: usize) -> u32
+    requires { ⌜ (i ≤ 31) × (w < 2 ^ i) × (v < 2) ⌝ }
+    ensures { λ r. ⌜ r ≡ w + v * 2 ^ i ⌝ }
+{
+    w | (v << i)
+}
+
+// The voters of all signals step, none looking at another.
+fn step_voters(n: usize, need: u32, agreed: u32, counts: [u32; 32], a: u32, b: u32) -> Voters
+    requires { ⌜ n ≤ 32 ⌝ }
+    ensures { λ r. ⌜ r ≡ voters n need agreed counts a b ⌝ }
+{
+    let mut word = 0u32;
+    let mut mask = 0u32;
+    let mut next = counts;
+    let mut i = 0usize;
+    while i < n {
+        let taken = vote_signal(need, agreed, next[i], a, b, i);
+        let answer = taken.answer;
+        let left = taken.state;
+        word = put_signal(word, left.word, i);
+        mask = put_signal(mask, alarm_bit(answer), i);
+        next[i] = left.count;
+        i += 1;
+    }
+    Voters {
+        word,
+        mask,
+        counts: next,
+    }
+}
+
+// 7, of the place of signal i: a count above N-1; at n and above, one that is not zero.
+fn bad_place(n: usize, need: u32, count: u32, i: usize) -> bool
+    ensures { λ r. ⌜ r ≡ badPlace n need count i ⌝ }
+{
+    if i < n {
+        return count > rules::last(need);
+    }
+    count > 0
+}
+
+fn bad_places(n: usize, need: u32, counts: [u32; 32]) -> bool
+    ensures { λ r. ⌜ r ≡ badPlaces n need counts ⌝ }
+{
+    let mut bad = false;
+    let mut i = 0usize;
+    while i < 32 {
+        bad = bad | bad_place(n, need, counts[i], i);
+        i += 1;
+    }
+    bad
+}
+
+fn confirmed_as(answer: ConfirmAnswer) -> TupleAnswer
+    ensures { λ r. ⌜ r ≡ confirmedAs answer ⌝ }
+{
+    match answer {
+        ConfirmAnswer::Confirmed(w) => TupleAnswer::Confirmed(w),
+        ConfirmAnswer::Held(w) => TupleAnswer::Held(w),
+        ConfirmAnswer::Refused(k) => TupleAnswer::Refused(k),
+    }
+}
+
+// The voted word has taken a step of confirmation.
+fn confirms(v: Voters, taken: ConfirmStep) -> TupleStep
+    ensures { λ r. ⌜ r ≡ confirms v taken ⌝ }
+{
+    let confirm = taken.state;
+    let answer = taken.answer;
+    let counts = v.counts;
+    let shown = confirmed_as(answer);
+    let state = Tuple {
+        confirm,
+        agreed: v.word,
+        counts,
+    };
+    TupleStep {
+        state,
+        answer: shown,
+    }
+}
+
+impl Tuple {
+    fn fresh(n: u32, need: u32, word: u32) -> Tuple
+        ensures { λ r. ⌜ r ≡ fresh n need word ⌝ }
+    {
+        let confirm = Confirm {
+            n,
+            need,
+            input: word,
+            output: word,
+            count: 0,
+        };
+        let counts = [0u32; 32];
+        Tuple {
+            confirm,
+            agreed: word,
+            counts,
+        }
+    }
+
+    // A fresh state from a width, a count and an initial word.
+    pub fn from_word(n: u32, need: u32, word: u32) -> TupleMade
+        ensures { λ r. ⌜ r ≡ madeOf n need word ⌝ }
+    {
+        let refusal = rules::make_refusal(rules::bad_count(need), n, word);
+        if refusal != 0 {
+            let state = Tuple::fresh(1, 1, 0);
+            return TupleMade { state, refusal };
+        }
+        let state = Tuple::fresh(n, need, word);
+        TupleMade { state, refusal }
+    }
+
+    // A fresh state from zero.
+    pub fn new(n: u32, need: u32) -> TupleMade
+        ensures { λ r. ⌜ r ≡ madeOf n need (defaultWord n) ⌝ }
+    {
+        Tuple::from_word(n, need, rules::default_word(n))
+    }
+
+    // The mask with the previous output; confirmation takes no step.
+    fn alarm(self, v: Voters) -> TupleStep
+        ensures { λ r. ⌜ r ≡ alarm self v ⌝ }
+    {
+        let confirm = self.confirm;
+        let counts = v.counts;
+        let word = confirm.output;
+        let state = Tuple {
+            confirm,
+            agreed: v.word,
+            counts,
+        };
+        TupleStep {
+            state,
+            answer: TupleAnswer::Alarm { word, mask: v.mask },
+        }
+    }
+
+    // If any voter alarms, the alarm; otherwise a step of confirmation.
+    fn decided(self, v: Voters) -> TupleStep
+        ensures { λ r. ⌜ r ≡ decided self v ⌝ }
+    {
+        let confirm = self.confirm;
+        if v.mask != 0 {
+            return self.alarm(v);
+        }
+        confirms(v, confirm.clauses(v.word))
+    }
+
+    fn voters(self, a: u32, b: u32) -> Voters
+        requires { ⌜ width self ≤ 32 ⌝ }
+        ensures { λ r. ⌜ r ≡ votersOf self a b ⌝ }
+    {
+        let confirm = self.confirm;
+        let counts = self.counts;
+        step_voters(confirm.n as usize, confirm.need, self.agreed, counts, a, b)
+    }
+
+    // 7: a place, an agreed bit at n or above, or the confirmation's state.
+    fn bad_state(self) -> bool
+        ensures { λ r. ⌜ r ≡ badState self ⌝ }
+    {
+        let confirm = self.confirm;
+        let counts = self.counts;
+        let places = bad_places(confirm.n as usize, confirm.need, counts);
+        places | rules::outside(confirm.n, self.agreed) | confirm.bad_state()
+    }
+
+    // The core of a run, which has tested the words and the state itself: all voters step, then the alarm or the confirmation.
+    fn clauses(self, a: u32, b: u32) -> TupleStep
+        requires { ⌜ width self ≤ 32 ⌝ }
+        ensures { λ r. ⌜ r ≡ clauses self a b ⌝ }
+    {
+        self.decided(self.voters(a, b))
+    }
+
+    fn refused(self, number: u32) -> TupleStep
+        ensures { λ r. ⌜ r ≡ notTaken self number ⌝ }
+    {
+        TupleStep {
+            state: self,
+            answer: TupleAnswer::Refused(number),
+        }
+    }
+
+    // 1, 2, 6 or 7, or 0: what is known before the voters step.
+    fn early(self, a: u32, b: u32) -> u32
+        ensures { λ r. ⌜ r ≡ first (earlyRows self a b) ⌝ }
+    {
+        let confirm = self.confirm;
+        let outlying = rules::outside(confirm.n, a) | rules::outside(confirm.n, b);
+        rules::step_refusal(
+            rules::bad_count(confirm.need),
+            confirm.n,
+            outlying,
+            self.bad_state(),
+        )
+    }
+
+    // One step. A refused one returns the state it got.
+    pub fn step(self, a: u32, b: u32) -> TupleStep
+        ensures { λ r. ⌜ r ≡ stepOf self a b ⌝ }
+    {
+        let refusal = self.early(a, b);
+        if refusal != 0 {
+            return self.refused(refusal);
+        }
+        let v = self.voters(a, b);
+        let confirm = self.confirm;
+        let wide = rules::outside(confirm.n, v.word);
+        if wide {
+            return self.refused(8);
+        }
+        self.decided(v)
+    }
+}
+
+// A step for each sample, from a state: what each shows is written.
+fn write_steps(
+    start: Tuple,
+    a: &[u32],
+    b: &[u32],
+    words: &mut [u32],
+    masks: &mut [u32],
+    marks: &mut [u8],
+)
+    requires { ⌜ width start ≤ 32 ⌝ }
+    requires { ⌜ length (now a) ≡ length (now b) ⌝ }
+    requires { ⌜ length (now a) ≡ length (now words) ⌝ }
+    requires { ⌜ length (now a) ≡ length (now masks) ⌝ }
+    requires { ⌜ length (now a) ≡ length (now marks) ⌝ }
+    ensures { λ _. ⌜ now (words .exit) ≡ map shownWord (steps start (zip (now (a .entry)) (now (b .entry)))) ⌝ }
+    ensures { λ _. ⌜ now (masks .exit) ≡ map shownMask (steps start (zip (now (a .entry)) (now (b .entry)))) ⌝ }
+    ensures { λ _. ⌜ now (marks .exit) ≡ map shownMark (steps start (zip (now (a .entry)) (now (b .entry)))) ⌝ }
+{
+    let mut state = start;
+    let mut i = 0;
+    while i < a.len() {
+        let taken = state.clauses(a[i], b[i]);
+        let answer = taken.answer;
+        state = taken.state;
+        words[i] = answer.word();
+        masks[i] = answer.mask();
+        marks[i] = answer.mark();
+        i += 1;
+    }
+}
+
+// A run over two lent columns, from a fresh state.
+pub fn run(
+    n: u32,
+    need: u32,
+    word: u32,
+    a: &[u32],
+    b: &[u32],
+    words: &mut [u32],
+    masks: &mut [u32],
+    marks: &mut [u8],
+) -> RunAnswer
+    ensures { λ r. ⌜ Ran n need word (now (a .entry)) (now (b .entry)) (now (words .entry)) (now (masks .entry)) (now (marks .entry))
+        r (now (words .exit)) (now (masks .exit)) (now (marks .exit)) ⌝ }
+{
+    let len = a.len();
+    let unequal = (len != words.len()) | (len != masks.len()) | (len != marks.len());
+    let answer = trace::judge_pair(rules::bad_count(need), n, word, a, b, unequal);
+    let RunAnswer::Done = answer else {
+        return answer;
+    };
+    write_steps(Tuple::fresh(n, need, word), a, b, words, masks, marks);
+    RunAnswer::Done
+}
