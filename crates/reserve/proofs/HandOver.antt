@@ -15,7 +15,7 @@ use Rattle.vote.specs.Answers.{markOf}
 use Rattle.vote.specs.Vote as vote
 use Rattle.vote.specs.declared.VoteAnswer.{VoteAnswer}
 use Rattle.vote.specs.declared.VoteAnswer.the-variants.{Agreed, Held, Alarm, Refused}
-use Rattle.vote.proofs.Clauses.{reset-silent, same-width as vote-width}
+use Rattle.vote.proofs.Clauses.{reset-silent, same-sizes as vote-sizes}
 use Rattle.reserve.specs.HandOver.{handedOver, Alike, AllAlike}
 use Rattle.reserve.specs.declared.Phase.{Phase}
 use Rattle.reserve.specs.declared.Phase.the-variants.{Primary, TakingOver, Reserve as Reserved}
@@ -85,9 +85,9 @@ same-width : (s : Reserve) (x : Sample) → stepped s x .state .vote .n ≡ s .v
 unfolding clauses
 same-width s x = go (s .phase) where
   go : (p : Phase) → inPhase p (s .vote) (x .0 .0) (x .0 .1) (x .1 .0) (x .1 .1) .state .vote .n ≡ s .vote .n
-  go Primary = vote-width (s .vote) (x .0 .0) (x .0 .1) false
-  go TakingOver = vote-width (s .vote) (x .1 .0) (x .1 .1) true
-  go Reserved = vote-width (s .vote) (x .1 .0) (x .1 .1) false
+  go Primary = vote-sizes (s .vote) (x .0 .0) (x .0 .1) false .0
+  go TakingOver = vote-sizes (s .vote) (x .1 .0) (x .1 .1) true .0
+  go Reserved = vote-sizes (s .vote) (x .1 .0) (x .1 .1) false .0
 
 -- a state after a hand-over
 record After (n : ℕ) (s : Reserve) : Type 0 where

@@ -16,7 +16,7 @@ use Rattle.rules.specs.Limits.{outside}
 inside-lt : (n w : ℕ) → outside n w ≡ false → w < 2 ^ n
 inside-lt n w e = ltb-true w (2 ^ n) (not-false (ltb w (2 ^ n)) e)
 
-lt-inside : (n w : ℕ) → w < 2 ^ n → outside n w ≡ false
+pub lt-inside : (n w : ℕ) → w < 2 ^ n → outside n w ≡ false
 lt-inside n w h = ap not (lt-ltb w (2 ^ n) h)
 
 outside-le : (n w : ℕ) → outside n w ≡ true → 2 ^ n ≤ w

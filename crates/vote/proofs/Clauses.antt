@@ -1,5 +1,5 @@
 -- What the clauses of a vote never do: an alarm does not latch, a reset is never an alarm, and on hold and alarm the word that
--- is shown, and stays, is the last agreed one. The width stays.
+-- is shown, and stays, is the last agreed one. The width and N stay.
 use mathlib.Core.Path.{_≡_, refl}
 use mathlib.Core.Bool.{Bool, true, false}
 use Prim.Native.Nat.{ℕ, _+_, _-_}
@@ -45,11 +45,11 @@ module _ (s : Vote) where
     go false false true h = (refl, refl)
     go false false false h = (refl, refl)
 
-  pub same-width : (a b : ℕ) (reset : Bool) → clauses s a b reset .state .n ≡ s .n
+  pub same-sizes : (a b : ℕ) (reset : Bool) → (clauses s a b reset .state .n ≡ s .n) × (clauses s a b reset .state .need ≡ s .need)
   unfolding clauses
-  same-width a b reset = go (eqb a b) reset (ltb (s .count) (s .need - 1)) where
-    go : (p q r : Bool) → byTests s a p q r .state .n ≡ s .n
-    go true q r = refl
-    go false true r = refl
-    go false false true = refl
-    go false false false = refl
+  same-sizes a b reset = go (eqb a b) reset (ltb (s .count) (s .need - 1)) where
+    go : (p q r : Bool) → (byTests s a p q r .state .n ≡ s .n) × (byTests s a p q r .state .need ≡ s .need)
+    go true q r = (refl, refl)
+    go false true r = (refl, refl)
+    go false false true = (refl, refl)
+    go false false false = (refl, refl)

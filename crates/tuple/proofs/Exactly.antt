@@ -1,0 +1,67 @@
+-- Each number of each call is given exactly when its table says so; `Readings` of rules reads the tables out, number by number.
+-- `new` is `from_word` of the default word.
+use mathlib.Core.Path.{_≡_, refl}
+use mathlib.Core.Logic.{_↔_}
+use mathlib.Core.List.{List, zip}
+use mathlib.Core.Bool.{Bool, true, false, not, _||_}
+use Prim.Native.Nat.{ℕ}
+use lib.Dec.{eqb}
+use lib.ListN.{length}
+use Rattle.rules.specs.Choose.{if_then_else_}
+use Rattle.rules.specs.Limits.{badCount, tooLong, differ}
+use Rattle.rules.specs.Table.{Given, numbered}
+use Rattle.rules.specs.Refusals.{makeRows, runRows}
+use Rattle.rules.proofs.Tables.{exactly-when}
+use Rattle.trace.specs.Samples.{somewhere, Smallest, outsidePair}
+use Rattle.trace.specs.Answers.{runNumber, runSample}
+use Rattle.trace.specs.declared.RunAnswer.{RunAnswer}
+use Rattle.trace.proofs.Runs as runs
+use Rattle.confirm.specs.Answers.{numberOf as confirmNumber}
+use Rattle.confirm.specs.Confirm as confirm
+use Rattle.confirm.specs.declared.ConfirmAnswer.{ConfirmAnswer}
+use Rattle.confirm.specs.declared.ConfirmAnswer.the-variants.{Confirmed, Held, Refused}
+use Rattle.confirm.proofs.Exactly.{none-refused as confirm-none-refused}
+use Rattle.tuple.specs.declared.Tuple.{Tuple}
+use Rattle.tuple.specs.declared.TupleMade.{TupleMade}
+use Rattle.tuple.specs.declared.TupleStep.{TupleStep}
+use Rattle.tuple.specs.Answers.{numberOf}
+use Rattle.tuple.specs.Tuple.{votersOf, alarm, confirmedAs, confirms, clauses, made, notMade, madeOf, rowsOf, notTaken, stepOf}
+use Rattle.tuple.specs.Run.{unequal, answerOf}
+
+pub from-word-exactly : (n need word k : ℕ) → (madeOf n need word .refusal ≡ k) ↔ Given k (makeRows (badCount need) n word)
+unfolding madeOf numbered
+from-word-exactly n need word = exactly-when (λ (m : TupleMade). m .refusal) (makeRows (badCount need) n word) notMade (made n need word) refl (λ k. refl) refl
+
+same-number : (x : ConfirmAnswer) → numberOf (confirmedAs x) ≡ confirmNumber x
+same-number (Confirmed w) = refl
+same-number (Held w) = refl
+same-number (Refused k) = refl
+
+-- the clauses refuse nothing
+pub none-refused : (s : Tuple) (a b : ℕ) → numberOf (clauses s a b .answer) ≡ 0
+unfolding clauses
+none-refused s a b = go (not (eqb (votersOf s a b .mask) 0)) where
+  go : (p : Bool) → numberOf ((if p then alarm s (votersOf s a b) else confirms (votersOf s a b) (confirm.clauses (s .confirm) (votersOf s a b .word))) .answer) ≡ 0
+  go true = refl
+  go false = rw same-number (confirm-none-refused (s .confirm) (votersOf s a b .word))
+
+-- 1, 2, 6, 7 and 8
+pub step-exactly : (s : Tuple) (a b k : ℕ) → (numberOf (stepOf s a b .answer) ≡ k) ↔ Given k (rowsOf s a b)
+unfolding stepOf numbered
+step-exactly s a b = exactly-when (λ (t : TupleStep). numberOf (t .answer)) (rowsOf s a b) (notTaken s) (clauses s a b) refl (λ k. refl) (none-refused s a b)
+
+module _ (n need word : ℕ) (a b words masks marks : List ℕ) where
+  abbrev answered : RunAnswer
+  answered = answerOf n need word a b words masks marks
+
+  pub run-exactly :
+      (k : ℕ) → (runNumber answered ≡ k)
+      ↔ Given k (runRows (badCount need) n word (tooLong (length a) || tooLong (length b)) (differ (length a) (length b) || unequal a words masks marks) (somewhere (outsidePair n) (zip a b)))
+  run-exactly = runs.answer-exactly _ _ _ _ _ outsidePair (zip a b)
+
+  -- 6 comes with the smallest sample outside the width, and any other number with sample 0
+  pub run-six : runNumber answered ≡ 6 → Smallest (outsidePair n) (zip a b) (runSample answered)
+  run-six = runs.six-smallest _ _ _ _ _ outsidePair (zip a b)
+
+  pub run-others : (runNumber answered ≡ 6 → ⊥) → runSample answered ≡ 0
+  run-others = runs.other-zero _ _ _ _ _ outsidePair (zip a b)
