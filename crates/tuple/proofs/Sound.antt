@@ -14,14 +14,16 @@ use Rattle.rules.proofs.Ranges.{width-range}
 use Rattle.rules.proofs.Signals.{bit-small, none-below, not-at, place-below, place-above}
 use Rattle.rules.proofs.Width.{lt-inside}
 use Rattle.confirm.specs.Confirm as confirm
-use Rattle.confirm.proofs.Stepwise as confirms
+use Rattle.confirm.proofs.Clauses.{same-sizes as confirm-sizes}
+use Rattle.confirm.proofs.Stepwise as confirmed
+use Rattle.vote.proofs.Clauses.{same-sizes as vote-sizes}
 use Rattle.vote.proofs.Stepwise as votes
 use Rattle.tuple.specs.declared.Tuple.{Tuple}
 use Rattle.tuple.specs.Tuple.{width, voteNeed, fresh, voter, signalVote, votersOf, badPlace, badPlaces, badState, alarm, confirms, clauses}
 use Rattle.tuple.proofs.Small.{words-small}
 
 pub record Sound (n : ℕ) (s : Tuple) : Type 0 where
-  pub confirm-sound : confirms.Sound n (s .confirm)
+  pub confirm-sound : confirmed.Sound n (s .confirm)
   pub places : badPlaces n (voteNeed s) (s .counts) ≡ false
   pub agreed-in : outside n (s .agreed) ≡ false
 
@@ -48,3 +50,51 @@ module _ (n : ℕ) (s : Tuple) (g : Sound n s) where
   voter-sound i l =
       let o : ltb (voteNeed s - 1) (getD (s .counts) i 0) ≡ false = rw (lt-ltb i n l) at (old i (omega (arith, within-32))) in
       record { width = refl; counted = g .confirm-sound .counted; wide = refl; small = ltb-false (voteNeed s - 1) (getD (s .counts) i 0) o; word-in = bit-inside i (s .agreed) }
+
+  -- the places after a step: below n a vote has counted, at n and above nothing changed
+  place-next : (a b i : ℕ) → i < 32 → (p : Bool) → ltb i n ≡ p → badPlace n (voteNeed s) (getD (votersOf s a b .counts) i 0) i ≡ false
+  place-next a b i l true e =
+      let q = ltb-true i n e in
+      let f = signalVote (voteNeed s) (s .agreed) (s .counts) a b in
+      let next = votes.sound-next 1 (voter s i) (bit i a) (bit i b) false (voter-sound i q) (rw (bit-inside i a, bit-inside i b)) in
+      let need = vote-sizes (voter s i) (bit i a) (bit i b) false .1 in
+      rw (g .confirm-sound .width, place-below (λ k. f k .state .count) (s .counts) n i q, e) (le-ltb _ _ (rw need at (next .small)))
+  place-next a b i l false e =
+      rw (g .confirm-sound .width, place-above (λ k. signalVote (voteNeed s) (s .agreed) (s .counts) a b k .state .count) (s .counts) n i (ltb-false i n e)) (old i l)
+
+  pub places-next : (a b : ℕ) → badPlaces n (voteNeed s) (votersOf s a b .counts) ≡ false
+  places-next a b = none-below (λ i. badPlace n (voteNeed s) (getD (votersOf s a b .counts) i 0) i) 32 (λ i l. place-next a b i l (ltb i n) refl)
+
+  word-next : (a b : ℕ) → outside n (votersOf s a b .word) ≡ false
+  word-next a b = rw (← g .confirm-sound .width) (never-8 s a b)
+
+  -- after an accepted step number 7 is not given
+  pub sound-next : (a b : ℕ) → Sound n (clauses s a b .state)
+  unfolding clauses
+  sound-next a b = go (not (eqb (votersOf s a b .mask) 0)) where
+    go : (p : Bool) → Sound n ((if p then alarm s (votersOf s a b) else confirms (votersOf s a b) (confirm.clauses (s .confirm) (votersOf s a b .word))) .state)
+    go true = record { confirm-sound = g .confirm-sound; places = places-next a b; agreed-in = word-next a b }
+    go false =
+        record {
+          confirm-sound = confirmed.sound-next n (s .confirm) (votersOf s a b .word) (g .confirm-sound) (word-next a b);
+          places = rw (confirm-sizes (s .confirm) (votersOf s a b .word) .1) (places-next a b);
+          agreed-in = word-next a b;
+        }
+
+-- a fresh state is one
+zeros : (k i : ℕ) → _≡_ {A = ℕ} (getD (replicate k 0) i 0) 0
+zeros zero i = refl
+zeros (suc k) zero = refl
+zeros (suc k) (suc i) = zeros k i
+
+pub fresh-sound : (n need word : ℕ) → badCount need ≡ false → badWidth n ≡ false → outside n word ≡ false → Sound n (fresh n need word)
+fresh-sound n need word c w o =
+    record {
+      confirm-sound = record { width = refl; counted = c; wide = w; small = omega arith; input-in = o; output-in = o };
+      places = none-below (λ i. badPlace n need (getD (replicate 32 0) i 0) i) 32 (λ i l. go i (ltb i n));
+      agreed-in = o;
+    }
+  where
+    go : (i : ℕ) (p : Bool) → (if p then ltb (need - 1) (getD (replicate 32 0) i 0) else ltb 0 (getD (replicate 32 0) i 0)) ≡ false
+    go i true = rw (zeros 32 i) (le-ltb (need - 1) 0 (omega arith))
+    go i false = rw (zeros 32 i) (le-ltb 0 0 (omega arith))

@@ -1,31 +1,15 @@
 -- `Tuple::step` meets its contract: with a refusal the state as it came, without one the clauses.
 use mathlib.Core.Path.{_≡_, refl, sym, _∙_}
-use mathlib.Core.Bool.{Bool, true, false, _||_}
-use Prim.Native.Nat.{ℕ, _≤_}
-use borrow.Author.Tests.{eq-eqb, ne-eqb}
+use mathlib.Core.Bool.{Bool, true, false}
+use borrow.Author.Tests.{ne-eqb}
 use native.Mathlib.Omega.{arith}
 use Rattle.rules.specs.Choose.{if_then_else_}
-use Rattle.rules.specs.Limits.{badCount, outside}
-use Rattle.rules.specs.Table.{first, numbered, orElse}
-use Rattle.rules.proofs.Ranges.{width-range}
-use Rattle.rules.proofs.Readings.{step-0}
-use Rattle.rules.proofs.Tables.{one-more, refuses, works}
-use Rattle.tuple.specs.declared.Tuple.{Tuple}
-use Rattle.tuple.specs.Tuple.{width, votersOf, clauses, badState, earlyRows, rowsOf, notTaken, stepOf}
+use Rattle.rules.specs.Table.{first}
+use Rattle.rules.proofs.Tables.{refuses, works}
+use Rattle.tuple.specs.Tuple.{clauses, earlyRows, rowsOf, notTaken, stepOf}
+use Rattle.tuple.proofs.Rows.{last-row, wide, eight}
 use Rattle.tuple.proofs.Tuple.step.Statement.{statement}
 use Rattle.tuple.proofs.Tuple.step.Tie as tie
-
--- the table with its last row, 8
-last-row : (s : Tuple) (a b : ℕ) → first (rowsOf s a b) ≡ orElse (first (earlyRows s a b)) 8 (outside (width s) (votersOf s a b .word))
-unfolding numbered
-last-row s a b = one-more (earlyRows s a b) refl 8 (outside (width s) (votersOf s a b .word))
-
-module _ (s : Tuple) (a b : ℕ) (e : first (earlyRows s a b) ≡ 0) where
-  wide : width s ≤ 32
-  wide = width-range (width s) (step-0 (badCount (s .confirm .need)) (width s) (outside (width s) a || outside (width s) b) (badState s) .0 e .wide) .1
-
-  eight : (w : Bool) → outside (width s) (votersOf s a b .word) ≡ w → (if w then 8 else 0) ≡ first (rowsOf s a b)
-  eight w o = sym (last-row s a b ∙ rw (e, o))
 
 returns : tie.Need-returns
 unfolding stepOf

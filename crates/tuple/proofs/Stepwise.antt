@@ -1,0 +1,60 @@
+-- A run equals its steps: what an accepted run writes is what the public constructor and steps show, one after the other.
+use mathlib.Core.Path.{_≡_, refl, sym, ap, _∙_}
+use mathlib.Core.List.{List, map, zip}
+use mathlib.Core.Bool.{true, false, _||_}
+use Prim.Native.Nat.{ℕ}
+use lib.ListN.{length}
+use Rattle.rules.specs.Limits.{badCount, tooLong, differ, outside}
+use Rattle.rules.specs.Table.{first}
+use Rattle.rules.proofs.Readings.{Runs, step-0}
+use Rattle.rules.proofs.Tables.{works}
+use Rattle.trace.specs.Samples.{somewhere, outsidePair}
+use Rattle.trace.specs.declared.RunAnswer.the-variants.{Done}
+use Rattle.trace.proofs.Runs.{answer-done}
+use Rattle.trace.proofs.Samples.{nowhere}
+use Rattle.trace.proofs.Steps.{agree}
+use Rattle.tuple.specs.declared.Tuple.{Tuple}
+use Rattle.tuple.specs.Tuple.{width, badState, fresh, clauses, made, madeOf, earlyRows, notTaken, stepOf}
+use Rattle.tuple.specs.Run.{leaves, stepped, publicStep, steps, publicSteps, shownWord, shownMask, shownMark, unequal, answerOf, Ran, Stepwise}
+use Rattle.tuple.proofs.Rows.{eight}
+use Rattle.tuple.proofs.Sound.{Sound, not-bad, never-8, sound-next, fresh-sound}
+
+-- on a sound state, with words inside the width, the public step is the clauses
+pub step-is-clauses : (n : ℕ) (s : Tuple) (a b : ℕ) → Sound n s → outside n a || outside n b ≡ false → stepOf s a b ≡ clauses s a b
+unfolding stepOf
+step-is-clauses n s a b g e =
+    let c = g .confirm-sound in
+    let early : first (earlyRows s a b) ≡ 0 =
+        step-0 (badCount (s .confirm .need)) (width s) (outside (width s) a || outside (width s) b) (badState s) .1
+        (record { counted = c .counted; wide = rw (c .width) (c .wide); sample-in = rw (c .width) e; sound = not-bad n s g }) in
+    sym (works (notTaken s) (clauses s a b) (eight s a b early false (never-8 s a b)) refl)
+
+module _ (n need word : ℕ) (a b words masks marks : List ℕ) (accepted : answerOf n need word a b words masks marks ≡ Done) where
+  fine : Runs (badCount need) n word (tooLong (length a) || tooLong (length b)) (differ (length a) (length b) || unequal a words masks marks) (somewhere (outsidePair n) (zip a b))
+  fine = answer-done _ _ _ _ _ outsidePair (zip a b) accepted
+
+  -- the public constructor makes the fresh state
+  made-fresh : madeOf n need word ≡ made n need word
+  unfolding madeOf first
+  made-fresh = simp (fine .counted, fine .wide, fine .word-in)
+
+  -- and each public step is the clauses
+  pub same-steps : steps (fresh n need word) (zip a b) ≡ publicSteps (madeOf n need word .state) (zip a b)
+  same-steps =
+      rw made-fresh
+      (agree stepped publicStep leaves (Sound n) (λ (x : ℕ × ℕ). outsidePair n x ≡ false)
+      (λ s x. step-is-clauses n s (x .0) (x .1)) (λ s x g e. sound-next n s g (x .0) (x .1)) (0, 0)
+      (fresh n need word) (zip a b) (fresh-sound n need word (fine .counted) (fine .wide) (fine .word-in))
+      (nowhere (outsidePair n) (zip a b) (0, 0) (fine .samples-in)))
+
+pub run-is-steps :
+    (n need word : ℕ) (a b words masks marks words′ masks′ marks′ : List ℕ)
+    → Ran n need word a b words masks marks Done words′ masks′ marks′ → Stepwise n need word a b words′ masks′ marks′
+run-is-steps n need word a b words masks marks words′ masks′ marks′ ran =
+    let same = same-steps n need word a b words masks marks (sym (ran .answered)) in
+    record {
+      made = rw (made-fresh n need word a b words masks marks (sym (ran .answered)));
+      words-same = ran .words-after ∙ ap (map shownWord) same;
+      masks-same = ran .masks-after ∙ ap (map shownMask) same;
+      marks-same = ran .marks-after ∙ ap (map shownMark) same;
+    }
