@@ -3,7 +3,7 @@ use Prim.Native.Nat.{ℕ, zero, suc, _+_, _-_, _*_, _/_, _%_, _^_, _≤_, _<_}
 use mathlib.Core.Path.{_≡_, refl, sym, ap, _∙_}
 use mathlib.Core.List.{List, [], _∷_, _++_, append-assoc}
 use mathlib.Core.Bool.{Bool, true, false, _||_}
-use mathlib.Core.Logic.{⊎-elim}
+use mathlib.Core.Logic.{_↔_, ⊎-elim}
 use native.Mathlib.Omega.{arith}
 use native.Mathlib.Numerals.{add-one}
 use native.Mathlib.Nat.{add-mul-div-right, add-mul-mod-self-right, add-zero, div-eq-of-lt, eq-or-lt-of-le, le-of-suc-le-suc, mod-eq-of-lt, mod-lt, mul-assoc, mul-le-mul-right, pow-suc, zero-add}
@@ -55,6 +55,14 @@ module _ (f : ℕ → ℕ) where
     below q =
         rw (split q, ← mul-assoc (f n) (2 ^ (n - suc i) * 2) (2 ^ i), add-mul-div-right (asWord n f) (f n * (2 ^ (n - suc i) * 2)) (pow-pos i), ← mul-assoc (f n) (2 ^ (n - suc i)) 2)
         (add-mul-mod-self-right (asWord n f / 2 ^ i) (f n * 2 ^ (n - suc i)) 2)
+
+  -- it is zero exactly when each is
+  pub word-zero : ((i : ℕ) → f i < 2) → (n : ℕ) → (asWord n f ≡ 0) ↔ ((i : ℕ) → i < n → f i ≡ 0)
+  unfolding asWord
+  word-zero h n = (λ e i l. sym (word-bit h n i l) ∙ rw e (rw (div-eq-of-lt (pow-pos i))), back n) where
+    back : (n : ℕ) → ((i : ℕ) → i < n → f i ≡ 0) → asWord n f ≡ 0
+    back zero z = refl
+    back (suc n) z = rw (back n (λ i l. z i (omega (arith, l))), z n (omega arith)) (omega arith)
 
   pub list-length : (n : ℕ) → length (asList n f) ≡ n
   unfolding asList

@@ -1,7 +1,7 @@
 -- Two runs are equal where their steps agree on good states and alike samples and a good state stays good. So a run that tests
 -- nothing at each sample equals the public steps that test everything, and what no step looks at changes no run.
 use mathlib.Core.Path.{_≡_, refl, ap}
-use mathlib.Core.List.{List, [], _∷_, _++_}
+use mathlib.Core.List.{List, [], _∷_, _++_, map}
 use Prim.Native.Nat.{ℕ, suc, _<_}
 use native.Mathlib.Omega.{arith}
 use lib.ListN.{length, getD}
@@ -42,3 +42,14 @@ pub trace-append :
 unfolding trace left
 trace-append step next s [] ys = refl
 trace-append step next s (x ∷ xs) ys = rw (trace-append step next (next (step s x)) xs ys)
+
+-- a part of the state that steps by itself is followed through the run by its own steps
+module _ {S X T S′ X′ T′ : Type 0} (step : S → X → T) (next : T → S) (step′ : S′ → X′ → T′) (next′ : T′ → S′) (part : S → S′) (seen : X → X′) (Good : S → Type 0) where
+  pub follows :
+      ((s : S) (x : X) → Good s → part (next (step s x)) ≡ next′ (step′ (part s) (seen x)))
+      → ((s : S) (x : X) → Good s → Good (next (step s x)))
+      → (s : S) (xs : List X) → Good s
+      → map (λ (t : T). part (next t)) (trace step next s xs) ≡ map next′ (trace step′ next′ (part s) (map seen xs))
+  unfolding trace
+  follows same keeps s [] g = refl
+  follows same keeps s (x ∷ xs) g = rw (← same s x g) (ap (λ (l : List S′). part (next (step s x)) ∷ l) (follows same keeps (next (step s x)) xs (keeps s x g)))

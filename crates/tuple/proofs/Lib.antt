@@ -1,6 +1,8 @@
 pub mod Exactly
+pub mod Masks
 pub mod PerSignal
 pub mod Rows
+pub mod Runs
 pub mod Sizes
 pub mod Small
 pub mod Sound

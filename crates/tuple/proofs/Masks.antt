@@ -1,0 +1,67 @@
+-- The alarm mask: its bit i is a one exactly when voter i alarms, it is zero exactly when none does, and it has no bit at n or above.
+use mathlib.Core.Path.{_≡_, refl, sym, _∙_}
+use mathlib.Core.Logic.{_↔_}
+use mathlib.Core.Bool.{Bool, true, false, not}
+use Prim.Native.Nat.{ℕ, _<_}
+use native.Mathlib.Omega.{arith}
+use lib.Dec.{eqb}
+use borrow.Author.Tests.{eqb-true, not-false}
+use Rattle.rules.specs.Bits.{bit}
+use Rattle.rules.specs.Choose.{if_then_else_}
+use Rattle.rules.specs.Limits.{outside}
+use Rattle.rules.proofs.Signals.{word-bit, word-zero}
+use Rattle.rules.proofs.Width.{lt-inside}
+use Rattle.confirm.specs.Confirm as confirm
+use Rattle.confirm.specs.declared.ConfirmAnswer.{ConfirmAnswer}
+use Rattle.confirm.specs.declared.ConfirmAnswer.the-variants.{Confirmed, Held, Refused}
+use Rattle.vote.specs.Answers.{markOf}
+use Rattle.vote.specs.Vote as vote
+use Rattle.vote.specs.declared.VoteAnswer.{VoteAnswer}
+use Rattle.vote.specs.declared.VoteAnswer.the-variants.{Agreed as VoteAgreed, Held as VoteHeld, Alarm as VoteAlarm, Refused as VoteRefused}
+use Rattle.tuple.specs.declared.Tuple.{Tuple}
+use Rattle.tuple.specs.Answers.{maskOf}
+use Rattle.tuple.specs.Run.{shownMask}
+use Rattle.tuple.specs.Tuple.{width, voteNeed, voter, signalVote, alarmBit, votersOf, alarm, confirmedAs, confirms, clauses}
+use Rattle.tuple.proofs.Small.{alarm-small, masks-small}
+
+no-mask : (x : ConfirmAnswer) → maskOf (confirmedAs x) ≡ 0
+no-mask (Confirmed w) = refl
+no-mask (Held w) = refl
+no-mask (Refused k) = refl
+
+silent : (v : VoteAnswer) → (alarmBit v ≡ 0) ↔ (markOf v ≡ 2 → ⊥)
+silent (VoteAgreed w) = (λ e m. omega arith, λ h. refl)
+silent (VoteHeld w) = (λ e m. omega arith, λ h. refl)
+silent (VoteAlarm w) = (λ e m. omega arith, λ h. absurd (h refl))
+silent (VoteRefused k) = (λ e m. omega arith, λ h. refl)
+
+module _ (s : Tuple) (a b : ℕ) where
+  -- the mask that is shown is the voters', alarm or not
+  pub mask-shown : shownMask (clauses s a b) ≡ votersOf s a b .mask
+  unfolding clauses
+  mask-shown = go (not (eqb (votersOf s a b .mask) 0)) refl where
+    go :
+        (p : Bool) → not (eqb (votersOf s a b .mask) 0) ≡ p
+        → shownMask (if p then alarm s (votersOf s a b) else confirms (votersOf s a b) (confirm.clauses (s .confirm) (votersOf s a b .word))) ≡ votersOf s a b .mask
+    go true e = refl
+    go false e = no-mask (confirm.clauses (s .confirm) (votersOf s a b .word) .answer) ∙ sym (eqb-true (votersOf s a b .mask) 0 (not-false (eqb (votersOf s a b .mask) 0) e))
+
+  abbrev vote-of : ℕ → VoteAnswer
+  vote-of i = vote.clauses (voter s i) (bit i a) (bit i b) false .answer
+
+  bits-small : (i : ℕ) → alarmBit (vote-of i) < 2
+  bits-small i = alarm-small (vote-of i)
+
+  pub mask-bit : (i : ℕ) → i < width s → bit i (shownMask (clauses s a b)) ≡ alarmBit (vote-of i)
+  mask-bit i l = rw mask-shown (word-bit (λ k. alarmBit (vote-of k)) bits-small (width s) i l)
+
+  pub mask-zero : (shownMask (clauses s a b) ≡ 0) ↔ ((i : ℕ) → i < width s → markOf (vote-of i) ≡ 2 → ⊥)
+  mask-zero =
+      let zero-bits = word-zero (λ k. alarmBit (vote-of k)) bits-small (width s) in
+      rw mask-shown (
+        λ e i l. silent (vote-of i) .0 (zero-bits .0 e i l),
+        λ h. zero-bits .1 (λ i l. silent (vote-of i) .1 (h i l)),
+      )
+
+  pub mask-inside : outside (width s) (shownMask (clauses s a b)) ≡ false
+  mask-inside = rw mask-shown (lt-inside (width s) (votersOf s a b .mask) (masks-small (voteNeed s) (s .agreed) (s .counts) a b (width s)))
