@@ -2,7 +2,6 @@
 -- the voted words.
 use mathlib.Core.Path.{_≡_, refl, sym, ap, _∙_}
 use mathlib.Core.List.{List, [], _∷_, map}
-use mathlib.Core.Bool.{Bool, true, false, not}
 use Prim.Native.Nat.{ℕ, suc, _<_}
 use native.Mathlib.Omega.{arith}
 use lib.ListN.{length, getD}
@@ -12,13 +11,15 @@ use Rattle.trace.specs.Trace.{trace}
 use Rattle.trace.proofs.Steps.{follows}
 use Rattle.confirm.specs.Confirm as confirm
 use Rattle.confirm.specs.Run as confirmRun
+use Rattle.confirm.specs.declared.ConfirmStep.{ConfirmStep}
 use Rattle.vote.specs.Run as voteRun
 use Rattle.tuple.specs.declared.Tuple.{Tuple}
+use Rattle.tuple.specs.declared.TupleAnswer.{TupleAnswer}
 use Rattle.tuple.specs.declared.TupleStep.{TupleStep}
 use Rattle.tuple.specs.Run.{leaves, stepped, steps, shownMask}
 use Rattle.tuple.specs.Tuple.{width, voter, votersOf, confirmedAs, confirms, clauses}
 use Rattle.tuple.proofs.Masks.{mask-shown}
-use Rattle.tuple.proofs.PerSignal.{per-signal}
+use Rattle.tuple.proofs.PerSignal.{voters-left, per-signal}
 use Rattle.tuple.proofs.Sizes.{same-sizes}
 
 -- signal i of both words of a sample
@@ -36,3 +37,18 @@ per-signal-run s i l xs =
 pub quiet : (s : Tuple) (a b : ℕ) → shownMask (clauses s a b) ≡ 0 → clauses s a b ≡ confirms (votersOf s a b) (confirm.clauses (s .confirm) (votersOf s a b .word))
 unfolding clauses
 quiet s a b e = rw (eq-eqb (votersOf s a b .mask) 0 (sym (mask-shown s a b) ∙ e))
+
+-- and a run without one: the answers are the confirmation's, of the voted words one after the other
+pub quiet-run :
+    (s : Tuple) (xs : List (ℕ × ℕ)) → ((i : ℕ) → i < length xs → getD (map shownMask (steps s xs)) i 0 ≡ 0)
+    → map (λ (t : TupleStep). t .answer) (steps s xs)
+    ≡ map (λ (t : ConfirmStep). confirmedAs (t .answer)) (confirmRun.steps (s .confirm) (map (λ (t : TupleStep). t .state .agreed) (steps s xs)))
+unfolding trace
+quiet-run s [] silent = refl
+quiet-run s (x ∷ xs) silent =
+    let left = stepped s x .state in
+    let q = quiet s (x .0) (x .1) (silent 0 (omega arith)) in
+    let word : left .agreed ≡ votersOf s (x .0) (x .1) .word = voters-left s (x .0) (x .1) .0 in
+    let answered : stepped s x .answer ≡ confirmedAs (confirm.clauses (s .confirm) (left .agreed) .answer) = ap (λ (t : TupleStep). t .answer) q ∙ rw word in
+    let went : left .confirm ≡ confirm.clauses (s .confirm) (left .agreed) .state = ap (λ (t : TupleStep). t .state .confirm) q ∙ rw word in
+    rw (← answered, ← went) (ap (λ (l : List TupleAnswer). stepped s x .answer ∷ l) (quiet-run left xs (λ i h. silent (suc i) (omega arith))))

@@ -2,19 +2,22 @@
 use mathlib.Core.Path.{_≡_, refl, sym, ap, _∙_}
 use mathlib.Core.List.{List, map, zip}
 use mathlib.Core.Bool.{true, false, _||_}
-use Prim.Native.Nat.{ℕ}
+use Prim.Native.Nat.{ℕ, _-_}
+use lib.Dec.{ltb}
 use lib.ListN.{length}
+use borrow.Author.Tests.{ltb-false}
 use Rattle.rules.specs.Limits.{badCount, tooLong, differ, outside}
 use Rattle.rules.specs.Table.{first}
 use Rattle.rules.proofs.Readings.{Runs, step-0}
-use Rattle.rules.proofs.Tables.{works}
+use Rattle.rules.proofs.Tables.{or-neither, works}
 use Rattle.trace.specs.Samples.{somewhere, outsidePair}
 use Rattle.trace.specs.declared.RunAnswer.the-variants.{Done}
 use Rattle.trace.proofs.Runs.{answer-done}
 use Rattle.trace.proofs.Samples.{nowhere}
 use Rattle.trace.proofs.Steps.{agree}
+use Rattle.confirm.specs.Confirm as confirm
 use Rattle.tuple.specs.declared.Tuple.{Tuple}
-use Rattle.tuple.specs.Tuple.{width, badState, fresh, clauses, made, madeOf, earlyRows, notTaken, stepOf}
+use Rattle.tuple.specs.Tuple.{width, voteNeed, badPlaces, badState, fresh, clauses, made, madeOf, earlyRows, notTaken, stepOf}
 use Rattle.tuple.specs.Run.{leaves, stepped, publicStep, steps, publicSteps, shownWord, shownMask, shownMark, unequal, answerOf, Ran, Stepwise}
 use Rattle.tuple.proofs.Rows.{eight}
 use Rattle.tuple.proofs.Sound.{Sound, not-bad, never-8, sound-next, fresh-sound}
@@ -28,6 +31,27 @@ step-is-clauses n s a b g e =
         step-0 (badCount (s .confirm .need)) (width s) (outside (width s) a || outside (width s) b) (badState s) .1
         (record { counted = c .counted; wide = rw (c .width) (c .wide); sample-in = rw (c .width) e; sound = not-bad n s g }) in
     sym (works (notTaken s) (clauses s a b) (eight s a b early false (never-8 s a b)) refl)
+
+-- a state that a public step takes is sound
+module _ (s : Tuple) (a b : ℕ) (taken : first (earlyRows s a b) ≡ 0) where
+  sound : Sound (width s) s
+  sound =
+      let t = step-0 (badCount (s .confirm .need)) (width s) (outside (width s) a || outside (width s) b) (badState s) .0 taken in
+      let c = s .confirm in
+      let p = or-neither (badPlaces (width s) (voteNeed s) (s .counts) || outside (width s) (s .agreed)) (confirm.badState c) (t .sound) in
+      let q = or-neither (badPlaces (width s) (voteNeed s) (s .counts)) (outside (width s) (s .agreed)) (p .0) in
+      let u = or-neither (ltb (c .need - 1) (c .count) || outside (c .n) (c .input)) (outside (c .n) (c .output)) (p .1) in
+      let v = or-neither (ltb (c .need - 1) (c .count)) (outside (c .n) (c .input)) (u .0) in
+      record {
+        confirm-sound = record { width = refl; counted = t .counted; wide = t .wide; small = ltb-false (c .need - 1) (c .count) (v .0); input-in = v .1; output-in = u .1 };
+        places = q .0;
+        agreed-in = q .1;
+      }
+
+  -- after an accepted step number 7 is not given
+  pub step-keeps : badState (stepOf s a b .state) ≡ false
+  unfolding stepOf
+  step-keeps = rw (← eight s a b taken false (never-8 s a b)) (not-bad (width s) (clauses s a b .state) (sound-next (width s) s sound a b))
 
 module _ (n need word : ℕ) (a b words masks marks : List ℕ) (accepted : answerOf n need word a b words masks marks ≡ Done) where
   fine : Runs (badCount need) n word (tooLong (length a) || tooLong (length b)) (differ (length a) (length b) || unequal a words masks marks) (somewhere (outsidePair n) (zip a b))
