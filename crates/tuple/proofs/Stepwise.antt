@@ -28,8 +28,8 @@ unfolding stepOf
 step-is-clauses n s a b g e =
     let c = g .confirm-sound in
     let early : first (earlyRows s a b) ≡ 0 =
-        step-0 (badCount (s .confirm .need)) (width s) (outside (width s) a || outside (width s) b) (badState s) .1
-        (record { counted = c .counted; wide = rw (c .width) (c .wide); sample-in = rw (c .width) e; sound = not-bad n s g }) in
+    step-0 (badCount (s .confirm .need)) (width s) (outside (width s) a || outside (width s) b) (badState s) .1
+    (record { counted = c .counted; wide = rw (c .width) (c .wide); sample-in = rw (c .width) e; sound = not-bad n s g }) in
     sym (works (notTaken s) (clauses s a b) (eight s a b early false (never-8 s a b)) refl)
 
 -- a state that a public step takes is sound

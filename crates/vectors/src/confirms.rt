@@ -7,7 +7,7 @@ use lines::output;
 use lines::room;
 
 // STATE: n, N, previous input, previous output, count.
-fn read_state() -> Confirm {
+pub fn read_state() -> Confirm {
     let n = input::number();
     let need = input::number();
     let input = input::number();
@@ -22,12 +22,16 @@ fn read_state() -> Confirm {
     }
 }
 
-fn print_state(s: Confirm) {
+pub fn print_fields(s: Confirm) {
     output::next(s.n);
     output::next(s.need);
     output::next(s.input);
     output::next(s.output);
     output::next(s.count);
+}
+
+fn print_state(s: Confirm) {
+    print_fields(s);
     output::end_line();
 }
 

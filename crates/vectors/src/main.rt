@@ -5,6 +5,7 @@ mod reserves;
 mod runs;
 mod sizings;
 mod thresholds;
+mod tuples;
 mod votes;
 
 // More lines than any input has, so that the program ends.
@@ -19,6 +20,7 @@ fn answer_call(name: &mut [u8]) -> bool {
         || thresholds::answer(called)
         || votes::answer(called)
         || reserves::answer(called)
+        || tuples::answer(called)
 }
 
 fn main() {
