@@ -4,8 +4,9 @@
     python3 make.py --check     compares them with what would be written, and writes nothing
     python3 make.py --errors    prints the calls that tell the five errors of document 01 apart
 
-A room that the crate `vectors` calls, by its line in crates.txt, has its calls in that crate's stdin and
-their answers in its stdout. The other rooms wait in `stored`, a file of each for every room.
+A crate that stands on `lines`, by its line in crates.txt, is a program that makes calls. The calls of a room are
+in the stdin of the first program whose line names it, and their answers in its stdout. A room that no program names
+waits in `stored`, with a file of each.
 """
 
 import os
@@ -17,15 +18,15 @@ import protocol
 HERE = os.path.dirname(os.path.abspath(__file__))
 TOP = os.path.dirname(HERE)
 STORED = os.path.join('second', 'stored')
-VECTORS = os.path.join('crates', 'vectors')
 
 
-def called_rooms():
-    """The rooms that the line of `vectors` in crates.txt names, in our order."""
+def programs():
+    """The rooms whose calls each program of crates.txt makes, in our order, by the program's name."""
     with open(os.path.join(TOP, 'crates.txt'), encoding='utf-8') as file:
         lines = [line.split('#')[0].partition(':') for line in file]
-    named = [name for crate, _, names in lines if crate.strip() == 'vectors' for name in names.split()]
-    return [room for room in generate.ROOMS if room in named]
+    named = {crate.strip(): names.split() for crate, _, names in lines if 'lines' in names.split()}
+    first = {room: crate for crate in reversed(named) for room in named[crate]}
+    return {crate: [room for room in generate.ROOMS if first.get(room) == crate] for crate in named}
 
 
 def texts(rooms):
@@ -37,10 +38,13 @@ def texts(rooms):
 
 def made_files():
     """The text of every stored file, by its name below the repository's top."""
-    called = called_rooms()
-    files = dict(zip((os.path.join(VECTORS, 'stdin'), os.path.join(VECTORS, 'stdout')), texts(called)))
+    called = programs()
+    files = {}
+    for crate, rooms in called.items():
+        names = [os.path.join('crates', crate, name) for name in ('stdin', 'stdout')]
+        files.update(zip(names, texts(rooms)))
     for room in generate.ROOMS:
-        if room not in called:
+        if not any(room in rooms for rooms in called.values()):
             names = [os.path.join(STORED, room + ending) for ending in ('.calls', '.answers')]
             files.update(zip(names, texts([room])))
     return files

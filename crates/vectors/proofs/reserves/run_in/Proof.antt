@@ -1,9 +1,0 @@
--- `reserves::run_in` lends as many places as each slice has at most.
-use lib.ListN.{length-take}
-use native.Mathlib.Omega.{arith}
-use borrow.Author.Needs.{needs}
-use Rattle.vectors.proofs.reserves.run_in.Statement.{statement}
-use Rattle.vectors.proofs.reserves.run_in.Tie as tie
-
-pub run-in-spec : {M : Type 1} → statement M
-run-in-spec = tie.close (tie.spec (λ _ _. tt) (λ _ _. tt) (λ _ _. tt) (λ _ _. tt) (λ _ _. tt) (λ _ _. tt) (λ _ _. tt) (λ _ _. tt) (λ _ _. tt) (λ c. search needs) (λ c. simp length-take (omega arith)) (λ c. search needs) (λ c. simp length-take (omega arith)) (λ c. search needs) (λ c. simp length-take (omega arith)) (λ c. search needs) (λ c. simp length-take (omega arith)) (λ c. search needs) (λ c. simp length-take (omega arith)) (λ c. search needs) (λ c. simp length-take (omega arith)) (λ _ _. tt) (λ c. search needs) (λ c. search needs) (λ c. search needs) (λ c. search needs) (λ c. search needs) (λ c. search needs) (λ c. search needs))
