@@ -4,8 +4,8 @@ use native.Mathlib.Omega.{arith}
 use native.Mathlib.Nat.{add-comm}
 use lib.Bits.{or-shifted-r}
 use lib.Pow.{shl-exact}
-use Rattle.tuple.proofs.put_signal.Statement.{statement}
-use Rattle.tuple.proofs.put_signal.Tie as tie
+use Rattle.tuple.proofs.signals.put_signal.Statement.{statement}
+use Rattle.tuple.proofs.signals.put_signal.Tie as tie
 
 returns : tie.Need-returns
 returns c =

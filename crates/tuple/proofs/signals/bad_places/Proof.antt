@@ -7,8 +7,8 @@ use lib.ListN.{getD}
 use Rattle.rules.specs.Signals.{someBelow}
 use Rattle.rules.proofs.Signals.{some-none, some-more}
 use Rattle.tuple.specs.Tuple.{badPlace}
-use Rattle.tuple.proofs.bad_places.Statement.{statement}
-use Rattle.tuple.proofs.bad_places.Tie as tie
+use Rattle.tuple.proofs.signals.bad_places.Statement.{statement}
+use Rattle.tuple.proofs.signals.bad_places.Tie as tie
 
 abbrev Inv-loop : tie.InvT-loop
 Inv-loop n need counts bad₀ i₀ bad i = (i ≤ 32) × (bad ≡ someBelow i (λ k. badPlace n need (getD counts k 0) k))

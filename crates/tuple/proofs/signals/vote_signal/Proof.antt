@@ -1,7 +1,7 @@
 -- `tuple::vote_signal` meets its contract: the vote's clauses on bit i of each word.
 use borrow.Author.Needs.{needs}
-use Rattle.tuple.proofs.vote_signal.Statement.{statement}
-use Rattle.tuple.proofs.vote_signal.Tie as tie
+use Rattle.tuple.proofs.signals.vote_signal.Statement.{statement}
+use Rattle.tuple.proofs.signals.vote_signal.Tie as tie
 
 returns : tie.Need-returns
 returns c = rw (c .clauses .ensures, c .before .signal3 .ensures, c .before .before .signal2 .ensures, c .before .before .before .signal .ensures)

@@ -9,8 +9,8 @@ use Rattle.rules.specs.Signals.{asWord, asList}
 use Rattle.rules.proofs.Signals.{word-none, word-more, places-none, places-more, place-above}
 use Rattle.tuple.specs.Tuple.{signalVote, alarmBit}
 use Rattle.tuple.proofs.Small.{alarm-small, word-bit-small, words-small, masks-small}
-use Rattle.tuple.proofs.step_voters.Statement.{statement}
-use Rattle.tuple.proofs.step_voters.Tie as tie
+use Rattle.tuple.proofs.signals.step_voters.Statement.{statement}
+use Rattle.tuple.proofs.signals.step_voters.Tie as tie
 
 abbrev Inv-loop : tie.InvT-loop
 Inv-loop n need agreed a b word₀ mask₀ next₀ i₀ word mask next i =
