@@ -3,10 +3,9 @@ use mathlib.Core.Path.{_≡_, refl}
 use mathlib.Core.Logic.{_↔_}
 use mathlib.Core.List.{List, []}
 use mathlib.Core.Bool.{Bool, true, false, not}
-use Prim.Native.Nat.{ℕ, _+_, _-_}
+use Prim.Native.Nat.{ℕ, _-_}
 use lib.ListN.{length}
 use lib.Dec.{ltb, eqb}
-use Rattle.rules.specs.Choose.{if_then_else_}
 use Rattle.rules.specs.Limits.{badCount, badWidth, tooLong, outside}
 use Rattle.rules.specs.Table.{first, Given, numbered}
 use Rattle.rules.specs.Refusals.{makeRows, runRows}
@@ -20,8 +19,9 @@ use Rattle.confirm.specs.declared.Confirm.{Confirm}
 use Rattle.confirm.specs.declared.ConfirmMade.{ConfirmMade}
 use Rattle.confirm.specs.declared.ConfirmStep.{ConfirmStep}
 use Rattle.confirm.specs.Answers.{numberOf}
-use Rattle.confirm.specs.Confirm.{held, confirmed, clauses, made, notMade, madeOf, rowsOf, notTaken, stepOf}
+use Rattle.confirm.specs.Confirm.{clauses, made, notMade, madeOf, rowsOf, notTaken, stepOf}
 use Rattle.confirm.specs.Run.{unequal, answerOf}
+use Rattle.confirm.proofs.Clauses.{byTests}
 
 pub from-word-exactly : (n need word k : ℕ) → (madeOf n need word .refusal ≡ k) ↔ Given k (makeRows (badCount need) n word)
 unfolding madeOf numbered
@@ -31,8 +31,8 @@ from-word-exactly n need word = exactly-when (λ (m : ConfirmMade). m .refusal) 
 pub none-refused : (s : Confirm) (x : ℕ) → numberOf (clauses s x .answer) ≡ 0
 unfolding clauses
 none-refused s x = go (not (eqb x (s .input))) (ltb (s .count) (s .need - 1)) where
-  go : (a b : Bool) → numberOf ((if a then held s x 0 else if b then held s x (s .count + 1) else confirmed s x) .answer) ≡ 0
-  go true b = refl
+  go : (p r : Bool) → numberOf (byTests s x p r .answer) ≡ 0
+  go true r = refl
   go false true = refl
   go false false = refl
 

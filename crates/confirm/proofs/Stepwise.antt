@@ -7,18 +7,18 @@ use native.Mathlib.Omega.{arith}
 use lib.ListN.{length}
 use lib.Dec.{ltb, eqb}
 use borrow.Author.Tests.{le-ltb, ltb-true}
-use Rattle.rules.specs.Choose.{if_then_else_}
 use Rattle.rules.specs.Limits.{badCount, badWidth, tooLong, outside}
 use Rattle.rules.specs.Table.{first}
-use Rattle.rules.proofs.Readings.{Runs}
+use Rattle.rules.proofs.Readings.{Makes, Runs, makes, run-makes}
 use Rattle.trace.specs.declared.RunAnswer.the-variants.{Done}
 use Rattle.trace.specs.Samples.{somewhere}
 use Rattle.trace.proofs.Runs.{answer-done}
 use Rattle.trace.proofs.Samples.{nowhere}
 use Rattle.trace.proofs.Steps.{agree}
 use Rattle.confirm.specs.declared.Confirm.{Confirm}
-use Rattle.confirm.specs.Confirm.{fresh, held, confirmed, clauses, made, madeOf, stepOf}
+use Rattle.confirm.specs.Confirm.{fresh, clauses, made, notMade, madeOf, stepOf}
 use Rattle.confirm.specs.Run.{leaves, steps, publicSteps, shownWord, shownMark, shownCount, unequal, answerOf, Ran, Stepwise}
+use Rattle.confirm.proofs.Clauses.{byTests}
 
 -- a state of width n that a step takes
 pub record Sound (n : ℕ) (s : Confirm) : Type 0 where
@@ -41,19 +41,19 @@ sound-next n s x g e = go (not (eqb x (s .input))) (ltb (s .count) (s .need - 1)
   kept : (output count : ℕ) → outside n output ≡ false → count ≤ s .need - 1 → Sound n (record { n = s .n; need = s .need; input = x; output = output; count = count })
   kept output count o h = record { width = g .width; counted = g .counted; wide = g .wide; small = h; input-in = e; output-in = o }
 
-  go : (a b : Bool) → ltb (s .count) (s .need - 1) ≡ b → Sound n ((if a then held s x 0 else if b then held s x (s .count + 1) else confirmed s x) .state)
-  go true b q = kept (s .output) 0 (g .output-in) (omega arith)
+  go : (p r : Bool) → ltb (s .count) (s .need - 1) ≡ r → Sound n (byTests s x p r .state)
+  go true r q = kept (s .output) 0 (g .output-in) (omega arith)
   go false true q = kept (s .output) (s .count + 1) (g .output-in) (omega (arith, ltb-true (s .count) (s .need - 1) q))
   go false false q = kept x (s .count) e (g .small)
+
+-- a constructor that refuses nothing makes the fresh state
+pub made-fresh : (n need word : ℕ) → Makes (badCount need) n word → madeOf n need word ≡ made n need word
+unfolding madeOf
+made-fresh n need word = makes (badCount need) n word notMade (made n need word)
 
 module _ (n need word : ℕ) (samples words marks counts : List ℕ) (accepted : answerOf n need word samples words marks counts ≡ Done) where
   fine : Runs (badCount need) n word (tooLong (length samples)) (unequal samples words marks counts) (somewhere (outside n) samples)
   fine = answer-done _ _ _ _ _ outside samples accepted
-
-  -- the public constructor makes the fresh state
-  made-fresh : madeOf n need word ≡ made n need word
-  unfolding madeOf first
-  made-fresh = simp (fine .counted, fine .wide, fine .word-in)
 
   start : Sound n (fresh n need word)
   start = record { width = refl; counted = fine .counted; wide = fine .wide; small = omega arith; input-in = fine .word-in; output-in = fine .word-in }
@@ -61,7 +61,7 @@ module _ (n need word : ℕ) (samples words marks counts : List ℕ) (accepted :
   -- and each public step is the clauses
   pub same-steps : steps (fresh n need word) samples ≡ publicSteps (madeOf n need word .state) samples
   same-steps =
-      rw made-fresh
+      rw (made-fresh n need word (run-makes _ _ _ _ _ _ fine))
       (agree clauses stepOf leaves (Sound n) (λ (x : ℕ). outside n x ≡ false) (step-is-clauses n) (sound-next n) 0
       (fresh n need word) samples start (nowhere (outside n) samples 0 (fine .samples-in)))
 
@@ -69,9 +69,10 @@ pub run-is-steps :
     (n need word : ℕ) (samples words marks counts words′ marks′ counts′ : List ℕ)
     → Ran n need word samples words marks counts Done words′ marks′ counts′ → Stepwise n need word samples words′ marks′ counts′
 run-is-steps n need word samples words marks counts words′ marks′ counts′ ran =
+    let f = fine n need word samples words marks counts (sym (ran .answered)) in
     let same = same-steps n need word samples words marks counts (sym (ran .answered)) in
     record {
-      made = rw (made-fresh n need word samples words marks counts (sym (ran .answered)));
+      made = rw (made-fresh n need word (run-makes _ _ _ _ _ _ f));
       words-same = ran .words-after ∙ ap (map shownWord) same;
       marks-same = ran .marks-after ∙ ap (map shownMark) same;
       counts-same = ran .counts-after ∙ ap (map shownCount) same;

@@ -1,5 +1,4 @@
 pub mod Exactly
-pub mod Fresh
 pub mod HandOver
 pub mod Stepwise
 pub mod Unique

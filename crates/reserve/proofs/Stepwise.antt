@@ -8,7 +8,7 @@ use lib.ListN.{length}
 use borrow.Author.Tests.{le-ltb}
 use Rattle.rules.specs.Limits.{badCount, tooLong, differ, outside}
 use Rattle.rules.specs.Table.{first}
-use Rattle.rules.proofs.Readings.{Runs}
+use Rattle.rules.proofs.Readings.{Makes, Runs, makes, run-makes}
 use Rattle.rules.proofs.Tables.{or-neither}
 use Rattle.trace.specs.Samples.{somewhere, outsideFour}
 use Rattle.trace.specs.declared.RunAnswer.the-variants.{Done}
@@ -20,9 +20,8 @@ use Rattle.vote.proofs.Stepwise as vote-steps
 use Rattle.reserve.specs.declared.Phase.{Phase}
 use Rattle.reserve.specs.declared.Phase.the-variants.{Primary, TakingOver, Reserve as Reserved}
 use Rattle.reserve.specs.declared.Reserve.{Reserve}
-use Rattle.reserve.specs.Reserve.{fresh, inPhase, clauses, madeOf, stepOf}
+use Rattle.reserve.specs.Reserve.{fresh, inPhase, clauses, made, notMade, madeOf, stepOf}
 use Rattle.reserve.specs.Run.{leaves, Sample, stepped, publicStep, steps, publicSteps, shownWord, shownMark, samplesOf, unequal, answerOf, Ran, Stepwise}
-use Rattle.reserve.proofs.Fresh.{made-fresh}
 
 -- on a state whose vote is sound, with words inside the width, the public step is the clauses
 pub step-is-clauses : (n : ℕ) (s : Reserve) (x : Sample) → Sound n (s .vote) → outsideFour n x ≡ false → publicStep s x ≡ stepped s x
@@ -41,6 +40,11 @@ sound-next n s x g e = go (s .phase) where
   go TakingOver = vote-steps.sound-next n (s .vote) (x .1 .0) (x .1 .1) true g (units .1)
   go Reserved = vote-steps.sound-next n (s .vote) (x .1 .0) (x .1 .1) false g (units .1)
 
+-- a constructor that refuses nothing makes the fresh state
+pub made-fresh : (n need word : ℕ) → Makes (badCount need) n word → madeOf n need word ≡ made n need word
+unfolding madeOf
+made-fresh n need word = makes (badCount need) n word notMade (made n need word)
+
 module _ (n need word : ℕ) (a b c d words marks : List ℕ) (accepted : answerOf n need word a b c d words marks ≡ Done) where
   fine :
       Runs (badCount need) n word
@@ -54,7 +58,7 @@ module _ (n need word : ℕ) (a b c d words marks : List ℕ) (accepted : answer
 
   pub same-steps : steps (fresh n need word) (samplesOf a b c d) ≡ publicSteps (madeOf n need word .state) (samplesOf a b c d)
   same-steps =
-      rw (made-fresh n need word (fine .counted) (fine .wide) (fine .word-in))
+      rw (made-fresh n need word (run-makes _ _ _ _ _ _ fine))
       (agree stepped publicStep leaves (λ (s : Reserve). Sound n (s .vote)) (λ (x : Sample). outsideFour n x ≡ false)
       (step-is-clauses n) (sound-next n) ((0, 0), (0, 0))
       (fresh n need word) (samplesOf a b c d) start (nowhere (outsideFour n) (samplesOf a b c d) ((0, 0), (0, 0)) (fine .samples-in)))
@@ -66,7 +70,7 @@ run-is-steps n need word a b c d words marks words′ marks′ ran =
     let f = fine n need word a b c d words marks (sym (ran .answered)) in
     let same = same-steps n need word a b c d words marks (sym (ran .answered)) in
     record {
-      made = rw (made-fresh n need word (f .counted) (f .wide) (f .word-in));
+      made = rw (made-fresh n need word (run-makes _ _ _ _ _ _ f));
       words-same = ran .words-after ∙ ap (map shownWord) same;
       marks-same = ran .marks-after ∙ ap (map shownMark) same;
     }

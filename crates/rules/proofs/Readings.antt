@@ -1,14 +1,14 @@
 -- The three tables read out: each number, exactly when its row's test is true and no lower row's is; 0, nothing refused,
 -- exactly when no test is true. Every voter's calls have these tables, so this page is read once for all of them.
-use mathlib.Core.Path.{_≡_, refl}
+use mathlib.Core.Path.{_≡_, refl, sym}
 use mathlib.Core.Logic.{_↔_}
 use mathlib.Core.List.{List, List·Memᴰ}
 use mathlib.Core.Bool.{Bool, true, false}
 use Prim.Native.Nat.{ℕ, _≤_}
 use Rattle.rules.specs.Limits.{badWidth, outside}
-use Rattle.rules.specs.Table.{Row, _when_, first, numbered, rising, Given, _and_}
+use Rattle.rules.specs.Table.{Row, _when_, first, answer, numbered, rising, Given, _and_}
 use Rattle.rules.specs.Refusals.{makeRows, stepRows, runRows}
-use Rattle.rules.proofs.Tables.{exactly, lowest}
+use Rattle.rules.proofs.Tables.{exactly, lowest, works}
 
 module _ (miscounted : Bool) (n word : ℕ) where
   abbrev making : List Row
@@ -37,6 +37,10 @@ module _ (miscounted : Bool) (n word : ℕ) where
     λ e. let g = make-exactly 0 .0 e in record { counted = g .0; wide = g .1 .0; word-in = g .1 .1 .0 },
     λ m. make-exactly 0 .1 (m .counted, (m .wide, (m .word-in, refl))),
   )
+
+  -- a constructor that refuses nothing does its work
+  pub makes : {A : Type 0} (refuse : ℕ → A) (work : A) → Makes → answer (first making) refuse work ≡ work
+  makes refuse work m = sym (works refuse work refl (make-0 .1 m))
 
   -- where several apply, the lowest number is given
   pub make-lowest : (j : ℕ) → List·Memᴰ (j when true) making → first making ≤ j
@@ -112,6 +116,10 @@ module _ (miscounted : Bool) (n word : ℕ) (long unequal outlying : Bool) where
     pub alike : unequal ≡ false
     pub word-in : outside n word ≡ false
     pub samples-in : outlying ≡ false
+
+  -- the constructor's tests are among them
+  pub run-makes : Runs → Makes miscounted n word
+  run-makes r = record { counted = r .counted; wide = r .wide; word-in = r .word-in }
 
   pub run-0 : (first running ≡ 0) ↔ Runs
   run-0 = (

@@ -1,12 +1,12 @@
 -- The laws of what is put together signal by signal: for a loop over the signals, none and one more; for a reader, signal i.
-use Prim.Native.Nat.{ℕ, zero, suc, _+_, _-_, _*_, _/_, _%_, _^_, _≤_, _<_}
+use Prim.Native.Nat.{ℕ, zero, suc, _+_, _-_, _*_, _/_, _^_, _≤_, _<_}
 use mathlib.Core.Path.{_≡_, refl, sym, ap, _∙_}
 use mathlib.Core.List.{List, [], _∷_, _++_, append-assoc}
-use mathlib.Core.Bool.{Bool, true, false, _||_}
+use mathlib.Core.Bool.{Bool, false, _||_}
 use mathlib.Core.Logic.{_↔_, ⊎-elim}
 use native.Mathlib.Omega.{arith}
 use native.Mathlib.Numerals.{add-one}
-use native.Mathlib.Nat.{add-mul-div-right, add-mul-mod-self-right, add-zero, div-eq-of-lt, eq-or-lt-of-le, le-of-suc-le-suc, mod-eq-of-lt, mod-lt, mul-assoc, mul-le-mul-right, pow-suc, zero-add}
+use native.Mathlib.Nat.{add-mul-div-right, add-mul-mod-self-right, div-eq-of-lt, eq-or-lt-of-le, le-of-suc-le-suc, mod-eq-of-lt, mod-lt, mul-assoc, mul-le-mul-right, pow-suc, zero-add}
 use lib.Dec.{lit<}
 use lib.ListN.{length, getD, set, drop, length-append, length-drop, List·getD-append}
 use lib.Pow.{pow-pos, pow-add}

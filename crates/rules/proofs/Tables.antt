@@ -18,6 +18,10 @@ pub or-neither : (a b : Bool) → a || b ≡ false → (a ≡ false) × (b ≡ f
 or-neither true b e = absurd (true≢false e)
 or-neither false b e = (refl, e)
 
+-- so each of two tests says what it says where it is false
+pub or-each : {P Q : Type 0} {a b : Bool} → (a ≡ false → P) → (b ≡ false → Q) → a || b ≡ false → P × Q
+or-each {a = a} {b = b} f g e = let p = or-neither a b e in (f (p .0), g (p .1))
+
 -- a number that no row has is not given
 foreign : (k : ℕ) (rows : List Row) → 0 < k → has k rows ≡ false → first rows ≡ k → ⊥
 unfolding first

@@ -1,7 +1,7 @@
 // Sizing of counts and bounds (document 01, "Sizing"): from the width, the gaps between samples and the greatest delay.
 ghost use mathlib.Core.Path.{_≡_};
 ghost use Rattle.rules.specs.Table.{first};
-ghost use Rattle.sizing.specs.Sizing.{badGaps, badDelay, countOf, sizeRows, sizingOf};
+ghost use Rattle.sizing.specs.Sizing.{badGaps, countOf, sizeRows, sizingOf};
 
 // The count N, the age bound and the quiet gap; refusal 0 is none. Times are whole microseconds.
 pub struct Sizing {

@@ -7,7 +7,6 @@ use mathlib.Core.Bool.{Bool, true, false, not, _||_}
 use Prim.Native.Nat.{ℕ}
 use lib.Dec.{eqb}
 use lib.ListN.{length}
-use Rattle.rules.specs.Choose.{if_then_else_}
 use Rattle.rules.specs.Limits.{badCount, tooLong, differ}
 use Rattle.rules.specs.Table.{Given, numbered}
 use Rattle.rules.specs.Refusals.{makeRows, runRows}
@@ -17,7 +16,6 @@ use Rattle.trace.specs.Answers.{runNumber, runSample}
 use Rattle.trace.specs.declared.RunAnswer.{RunAnswer}
 use Rattle.trace.proofs.Runs as runs
 use Rattle.confirm.specs.Answers.{numberOf as confirmNumber}
-use Rattle.confirm.specs.Confirm as confirm
 use Rattle.confirm.specs.declared.ConfirmAnswer.{ConfirmAnswer}
 use Rattle.confirm.specs.declared.ConfirmAnswer.the-variants.{Confirmed, Held, Refused}
 use Rattle.confirm.proofs.Exactly.{none-refused as confirm-none-refused}
@@ -25,8 +23,9 @@ use Rattle.tuple.specs.declared.Tuple.{Tuple}
 use Rattle.tuple.specs.declared.TupleMade.{TupleMade}
 use Rattle.tuple.specs.declared.TupleStep.{TupleStep}
 use Rattle.tuple.specs.Answers.{numberOf}
-use Rattle.tuple.specs.Tuple.{votersOf, alarm, confirmedAs, confirms, clauses, made, notMade, madeOf, rowsOf, notTaken, stepOf}
+use Rattle.tuple.specs.Tuple.{votersOf, confirmedAs, clauses, made, notMade, madeOf, rowsOf, notTaken, stepOf}
 use Rattle.tuple.specs.Run.{unequal, answerOf}
+use Rattle.tuple.proofs.Clauses.{byTest}
 
 pub from-word-exactly : (n need word k : ℕ) → (madeOf n need word .refusal ≡ k) ↔ Given k (makeRows (badCount need) n word)
 unfolding madeOf numbered
@@ -41,7 +40,7 @@ same-number (Refused k) = refl
 pub none-refused : (s : Tuple) (a b : ℕ) → numberOf (clauses s a b .answer) ≡ 0
 unfolding clauses
 none-refused s a b = go (not (eqb (votersOf s a b .mask) 0)) where
-  go : (p : Bool) → numberOf ((if p then alarm s (votersOf s a b) else confirms (votersOf s a b) (confirm.clauses (s .confirm) (votersOf s a b .word))) .answer) ≡ 0
+  go : (p : Bool) → numberOf (byTest s (votersOf s a b) p .answer) ≡ 0
   go true = refl
   go false = rw same-number (confirm-none-refused (s .confirm) (votersOf s a b .word))
 

@@ -1,9 +1,9 @@
+pub mod Clauses
 pub mod Exactly
 pub mod Masks
 pub mod PerSignal
 pub mod Rows
 pub mod Runs
-pub mod Sizes
 pub mod Small
 pub mod Sound
 pub mod Stepwise

@@ -7,7 +7,6 @@ use native.Mathlib.Omega.{arith}
 use lib.Dec.{eqb}
 use borrow.Author.Tests.{eqb-true, not-false}
 use Rattle.rules.specs.Bits.{bit}
-use Rattle.rules.specs.Choose.{if_then_else_}
 use Rattle.rules.specs.Limits.{outside}
 use Rattle.rules.proofs.Signals.{word-bit, word-zero}
 use Rattle.rules.proofs.Width.{lt-inside}
@@ -21,7 +20,8 @@ use Rattle.vote.specs.declared.VoteAnswer.the-variants.{Agreed as VoteAgreed, H
 use Rattle.tuple.specs.declared.Tuple.{Tuple}
 use Rattle.tuple.specs.Answers.{maskOf}
 use Rattle.tuple.specs.Run.{shownMask}
-use Rattle.tuple.specs.Tuple.{width, voteNeed, voter, signalVote, alarmBit, votersOf, alarm, confirmedAs, confirms, clauses}
+use Rattle.tuple.specs.Tuple.{width, voteNeed, voter, alarmBit, votersOf, confirmedAs, clauses}
+use Rattle.tuple.proofs.Clauses.{byTest}
 use Rattle.tuple.proofs.Small.{alarm-small, masks-small}
 
 no-mask : (x : ConfirmAnswer) → maskOf (confirmedAs x) ≡ 0
@@ -40,9 +40,7 @@ module _ (s : Tuple) (a b : ℕ) where
   pub mask-shown : shownMask (clauses s a b) ≡ votersOf s a b .mask
   unfolding clauses
   mask-shown = go (not (eqb (votersOf s a b .mask) 0)) refl where
-    go :
-        (p : Bool) → not (eqb (votersOf s a b .mask) 0) ≡ p
-        → shownMask (if p then alarm s (votersOf s a b) else confirms (votersOf s a b) (confirm.clauses (s .confirm) (votersOf s a b .word))) ≡ votersOf s a b .mask
+    go : (p : Bool) → not (eqb (votersOf s a b .mask) 0) ≡ p → shownMask (byTest s (votersOf s a b) p) ≡ votersOf s a b .mask
     go true e = refl
     go false e = no-mask (confirm.clauses (s .confirm) (votersOf s a b .word) .answer) ∙ sym (eqb-true (votersOf s a b .mask) 0 (not-false (eqb (votersOf s a b .mask) 0) e))
 

@@ -1,20 +1,17 @@
 -- Voter i of a tuple steps exactly as a plain vote of width 1 on bit i: so no signal's voter depends on another signal.
-use mathlib.Core.Path.{_≡_, refl, sym, ap, _∙_}
-use mathlib.Core.Bool.{Bool, true, false, not}
+use mathlib.Core.Path.{_≡_, sym, ap, _∙_}
+use mathlib.Core.Bool.{false}
 use mathlib.Core.List.{List}
 use Prim.Native.Nat.{ℕ, _<_}
-use lib.Dec.{eqb}
 use lib.ListN.{getD}
 use Rattle.rules.specs.Bits.{bit}
-use Rattle.rules.specs.Choose.{if_then_else_}
 use Rattle.rules.proofs.Signals.{word-bit, place-below}
-use Rattle.confirm.specs.Confirm as confirm
 use Rattle.vote.specs.Vote as vote
 use Rattle.vote.specs.declared.Vote.{Vote}
 use Rattle.vote.proofs.Clauses.{same-sizes as vote-sizes}
 use Rattle.tuple.specs.declared.Tuple.{Tuple}
-use Rattle.tuple.specs.Tuple.{width, voteNeed, voterOf, voter, signalVote, votersOf, alarm, confirms, clauses}
-use Rattle.tuple.proofs.Sizes.{same-sizes}
+use Rattle.tuple.specs.Tuple.{width, voteNeed, voter, signalVote, clauses}
+use Rattle.tuple.proofs.Clauses.{same-sizes, voters-left}
 use Rattle.tuple.proofs.Small.{word-bit-small}
 
 same-vote :
@@ -23,22 +20,13 @@ same-vote :
 same-vote v p q r t = rw (p, q, r, t)
 
 module _ (s : Tuple) (a b : ℕ) where
-  -- what a step leaves of the voters, alarm or not
-  pub voters-left : (clauses s a b .state .agreed ≡ votersOf s a b .word) × (clauses s a b .state .counts ≡ votersOf s a b .counts)
-  unfolding clauses
-  voters-left = go (not (eqb (votersOf s a b .mask) 0)) where
-    go :
-        (p : Bool) → let t = if p then alarm s (votersOf s a b) else confirms (votersOf s a b) (confirm.clauses (s .confirm) (votersOf s a b .word)) in
-        (t .state .agreed ≡ votersOf s a b .word) × (t .state .counts ≡ votersOf s a b .counts)
-    go true = (refl, refl)
-    go false = (refl, refl)
-
   pub per-signal : (i : ℕ) → i < width s → voter (clauses s a b .state) i ≡ vote.clauses (voter s i) (bit i a) (bit i b) false .state
   per-signal i l =
+      let left = voters-left s a b in
       let f = signalVote (voteNeed s) (s .agreed) (s .counts) a b in
       let word : bit i (clauses s a b .state .agreed) ≡ f i .state .word =
-      ap (bit i) (voters-left .0) ∙ word-bit (λ k. f k .state .word) (word-bit-small (voteNeed s) (s .agreed) (s .counts) a b) (width s) i l in
+      ap (bit i) (left .0) ∙ word-bit (λ k. f k .state .word) (word-bit-small (voteNeed s) (s .agreed) (s .counts) a b) (width s) i l in
       let count : getD (clauses s a b .state .counts) i 0 ≡ f i .state .count =
-      ap (λ (l : List ℕ). getD l i 0) (voters-left .1) ∙ place-below (λ k. f k .state .count) (s .counts) (width s) i l in
+      ap (λ (l : List ℕ). getD l i 0) (left .1) ∙ place-below (λ k. f k .state .count) (s .counts) (width s) i l in
       let sizes = vote-sizes (voter s i) (bit i a) (bit i b) false in
       same-vote (f i .state) (sym (sizes .0)) (same-sizes s a b .1 ∙ sym (sizes .1)) word count

@@ -18,9 +18,9 @@ use Rattle.tuple.specs.declared.TupleAnswer.{TupleAnswer}
 use Rattle.tuple.specs.declared.TupleStep.{TupleStep}
 use Rattle.tuple.specs.Run.{leaves, stepped, steps, shownMask}
 use Rattle.tuple.specs.Tuple.{width, voter, votersOf, confirmedAs, confirms, clauses}
+use Rattle.tuple.proofs.Clauses.{same-sizes, voters-left}
 use Rattle.tuple.proofs.Masks.{mask-shown}
-use Rattle.tuple.proofs.PerSignal.{voters-left, per-signal}
-use Rattle.tuple.proofs.Sizes.{same-sizes}
+use Rattle.tuple.proofs.PerSignal.{per-signal}
 
 -- signal i of both words of a sample
 abbrev pub signalOf : ℕ → ℕ × ℕ → ℕ × ℕ

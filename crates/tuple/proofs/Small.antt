@@ -1,5 +1,4 @@
 -- What a signal's voter gives is a bit, so what is put together from them is a word inside the width.
-use mathlib.Core.Path.{_≡_}
 use mathlib.Core.List.{List}
 use mathlib.Core.Bool.{Bool, true, false}
 use Prim.Native.Nat.{ℕ, _-_, _<_, _^_}

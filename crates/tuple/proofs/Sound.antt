@@ -1,7 +1,6 @@
 -- A state that a step takes: the clauses leave such a state again, number 8 is never given, and a fresh state is one.
-use mathlib.Core.Path.{_≡_, refl, sym, ap, _∙_}
-use mathlib.Core.List.{List}
-use mathlib.Core.Bool.{Bool, true, false, not, _||_}
+use mathlib.Core.Path.{_≡_, refl}
+use mathlib.Core.Bool.{Bool, true, false, not}
 use Prim.Native.Nat.{ℕ, zero, suc, _-_, _≤_, _<_}
 use native.Mathlib.Omega.{arith}
 use lib.Dec.{ltb, eqb}
@@ -13,13 +12,13 @@ use Rattle.rules.specs.Limits.{badCount, badWidth, outside}
 use Rattle.rules.proofs.Ranges.{width-range}
 use Rattle.rules.proofs.Signals.{bit-small, none-below, not-at, place-below, place-above}
 use Rattle.rules.proofs.Width.{lt-inside}
-use Rattle.confirm.specs.Confirm as confirm
 use Rattle.confirm.proofs.Clauses.{same-sizes as confirm-sizes}
 use Rattle.confirm.proofs.Stepwise as confirmed
 use Rattle.vote.proofs.Clauses.{same-sizes as vote-sizes}
 use Rattle.vote.proofs.Stepwise as votes
 use Rattle.tuple.specs.declared.Tuple.{Tuple}
-use Rattle.tuple.specs.Tuple.{width, voteNeed, fresh, voter, signalVote, votersOf, badPlace, badPlaces, badState, alarm, confirms, clauses}
+use Rattle.tuple.specs.Tuple.{width, voteNeed, fresh, voter, signalVote, votersOf, badPlace, badPlaces, badState, clauses}
+use Rattle.tuple.proofs.Clauses.{byTest}
 use Rattle.tuple.proofs.Small.{words-small}
 
 pub record Sound (n : ℕ) (s : Tuple) : Type 0 where
@@ -72,7 +71,7 @@ module _ (n : ℕ) (s : Tuple) (g : Sound n s) where
   pub sound-next : (a b : ℕ) → Sound n (clauses s a b .state)
   unfolding clauses
   sound-next a b = go (not (eqb (votersOf s a b .mask) 0)) where
-    go : (p : Bool) → Sound n ((if p then alarm s (votersOf s a b) else confirms (votersOf s a b) (confirm.clauses (s .confirm) (votersOf s a b .word))) .state)
+    go : (p : Bool) → Sound n (byTest s (votersOf s a b) p .state)
     go true = record { confirm-sound = g .confirm-sound; places = places-next a b; agreed-in = word-next a b }
     go false =
         record {

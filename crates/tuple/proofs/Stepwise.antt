@@ -1,14 +1,14 @@
 -- A run equals its steps: what an accepted run writes is what the public constructor and steps show, one after the other.
 use mathlib.Core.Path.{_≡_, refl, sym, ap, _∙_}
 use mathlib.Core.List.{List, map, zip}
-use mathlib.Core.Bool.{true, false, _||_}
+use mathlib.Core.Bool.{false, _||_}
 use Prim.Native.Nat.{ℕ, _-_}
 use lib.Dec.{ltb}
 use lib.ListN.{length}
 use borrow.Author.Tests.{ltb-false}
 use Rattle.rules.specs.Limits.{badCount, tooLong, differ, outside}
 use Rattle.rules.specs.Table.{first}
-use Rattle.rules.proofs.Readings.{Runs, step-0}
+use Rattle.rules.proofs.Readings.{Makes, Runs, makes, step-0, run-makes}
 use Rattle.rules.proofs.Tables.{or-neither, works}
 use Rattle.trace.specs.Samples.{somewhere, outsidePair}
 use Rattle.trace.specs.declared.RunAnswer.the-variants.{Done}
@@ -17,7 +17,7 @@ use Rattle.trace.proofs.Samples.{nowhere}
 use Rattle.trace.proofs.Steps.{agree}
 use Rattle.confirm.specs.Confirm as confirm
 use Rattle.tuple.specs.declared.Tuple.{Tuple}
-use Rattle.tuple.specs.Tuple.{width, voteNeed, badPlaces, badState, fresh, clauses, made, madeOf, earlyRows, notTaken, stepOf}
+use Rattle.tuple.specs.Tuple.{width, voteNeed, badPlaces, badState, fresh, clauses, made, notMade, madeOf, earlyRows, notTaken, stepOf}
 use Rattle.tuple.specs.Run.{leaves, stepped, publicStep, steps, publicSteps, shownWord, shownMask, shownMark, unequal, answerOf, Ran, Stepwise}
 use Rattle.tuple.proofs.Rows.{eight}
 use Rattle.tuple.proofs.Sound.{Sound, not-bad, never-8, sound-next, fresh-sound}
@@ -53,19 +53,19 @@ module _ (s : Tuple) (a b : ℕ) (taken : first (earlyRows s a b) ≡ 0) where
   unfolding stepOf
   step-keeps = rw (← eight s a b taken false (never-8 s a b)) (not-bad (width s) (clauses s a b .state) (sound-next (width s) s sound a b))
 
+-- a constructor that refuses nothing makes the fresh state
+pub made-fresh : (n need word : ℕ) → Makes (badCount need) n word → madeOf n need word ≡ made n need word
+unfolding madeOf
+made-fresh n need word = makes (badCount need) n word notMade (made n need word)
+
 module _ (n need word : ℕ) (a b words masks marks : List ℕ) (accepted : answerOf n need word a b words masks marks ≡ Done) where
   fine : Runs (badCount need) n word (tooLong (length a) || tooLong (length b)) (differ (length a) (length b) || unequal a words masks marks) (somewhere (outsidePair n) (zip a b))
   fine = answer-done _ _ _ _ _ outsidePair (zip a b) accepted
 
-  -- the public constructor makes the fresh state
-  made-fresh : madeOf n need word ≡ made n need word
-  unfolding madeOf first
-  made-fresh = simp (fine .counted, fine .wide, fine .word-in)
-
   -- and each public step is the clauses
   pub same-steps : steps (fresh n need word) (zip a b) ≡ publicSteps (madeOf n need word .state) (zip a b)
   same-steps =
-      rw made-fresh
+      rw (made-fresh n need word (run-makes _ _ _ _ _ _ fine))
       (agree stepped publicStep leaves (Sound n) (λ (x : ℕ × ℕ). outsidePair n x ≡ false)
       (λ s x. step-is-clauses n s (x .0) (x .1)) (λ s x g e. sound-next n s g (x .0) (x .1)) (0, 0)
       (fresh n need word) (zip a b) (fresh-sound n need word (fine .counted) (fine .wide) (fine .word-in))
@@ -75,9 +75,10 @@ pub run-is-steps :
     (n need word : ℕ) (a b words masks marks words′ masks′ marks′ : List ℕ)
     → Ran n need word a b words masks marks Done words′ masks′ marks′ → Stepwise n need word a b words′ masks′ marks′
 run-is-steps n need word a b words masks marks words′ masks′ marks′ ran =
+    let f = fine n need word a b words masks marks (sym (ran .answered)) in
     let same = same-steps n need word a b words masks marks (sym (ran .answered)) in
     record {
-      made = rw (made-fresh n need word a b words masks marks (sym (ran .answered)));
+      made = rw (made-fresh n need word (run-makes _ _ _ _ _ _ f));
       words-same = ran .words-after ∙ ap (map shownWord) same;
       masks-same = ran .masks-after ∙ ap (map shownMask) same;
       marks-same = ran .marks-after ∙ ap (map shownMark) same;

@@ -10,7 +10,6 @@ use Rattle.rules.proofs.Promise.{fixes}
 use Rattle.trace.specs.Answers.{after}
 use Rattle.trace.specs.declared.RunAnswer.{RunAnswer}
 use Rattle.tuple.specs.Answers.{numberOf, wordOf, maskOf, markOf}
-use Rattle.tuple.specs.Tuple
 use Rattle.tuple.specs.Tuple.{fresh, madeOf, stepOf}
 use Rattle.tuple.specs.Run.{steps, shownWord, shownMask, shownMark, answerOf}
 use Rattle.tuple.proofs.TupleAnswer.number.Reads as number

@@ -9,7 +9,7 @@ use lib.Dec.{ltb, eqb}
 use borrow.Author.Tests.{le-ltb, ltb-true}
 use Rattle.rules.specs.Limits.{badCount, badWidth, tooLong, differ, outside}
 use Rattle.rules.specs.Table.{first}
-use Rattle.rules.proofs.Readings.{Runs}
+use Rattle.rules.proofs.Readings.{Makes, Runs, makes, run-makes}
 use Rattle.rules.proofs.Tables.{or-neither}
 use Rattle.trace.specs.declared.RunAnswer.the-variants.{Done}
 use Rattle.trace.specs.Samples.{somewhere, outsidePair}
@@ -17,7 +17,7 @@ use Rattle.trace.proofs.Runs.{answer-done}
 use Rattle.trace.proofs.Samples.{nowhere}
 use Rattle.trace.proofs.Steps.{agree}
 use Rattle.vote.specs.declared.Vote.{Vote}
-use Rattle.vote.specs.Vote.{fresh, clauses, made, madeOf, stepOf}
+use Rattle.vote.specs.Vote.{fresh, clauses, made, notMade, madeOf, stepOf}
 use Rattle.vote.specs.Run.{leaves, plain, publicPlain, steps, publicSteps, shownWord, shownMark, unequal, answerOf, Ran, Stepwise}
 use Rattle.vote.proofs.Clauses.{byTests}
 
@@ -47,14 +47,14 @@ sound-next n s a b reset g e = go (eqb a b) reset (ltb (s .count) (s .need - 1))
   go false false true h = kept (s .word) (s .count + 1) (g .word-in) (omega (arith, ltb-true (s .count) (s .need - 1) h))
   go false false false h = g
 
+-- a constructor that refuses nothing makes the fresh state
+pub made-fresh : (n need word : ℕ) → Makes (badCount need) n word → madeOf n need word ≡ made n need word
+unfolding madeOf
+made-fresh n need word = makes (badCount need) n word notMade (made n need word)
+
 module _ (n need word : ℕ) (a b words marks : List ℕ) (accepted : answerOf n need word a b words marks ≡ Done) where
   fine : Runs (badCount need) n word (tooLong (length a) || tooLong (length b)) (differ (length a) (length b) || unequal a words marks) (somewhere (outsidePair n) (zip a b))
   fine = answer-done _ _ _ _ _ outsidePair (zip a b) accepted
-
-  -- the public constructor makes the fresh state
-  made-fresh : madeOf n need word ≡ made n need word
-  unfolding madeOf first
-  made-fresh = simp (fine .counted, fine .wide, fine .word-in)
 
   start : Sound n (fresh n need word)
   start = record { width = refl; counted = fine .counted; wide = fine .wide; small = omega arith; word-in = fine .word-in }
@@ -62,7 +62,7 @@ module _ (n need word : ℕ) (a b words marks : List ℕ) (accepted : answerOf n
   -- and each public step is the clauses
   pub same-steps : steps (fresh n need word) (zip a b) ≡ publicSteps (madeOf n need word .state) (zip a b)
   same-steps =
-      rw made-fresh
+      rw (made-fresh n need word (run-makes _ _ _ _ _ _ fine))
       (agree plain publicPlain leaves (Sound n) (λ (x : ℕ × ℕ). outsidePair n x ≡ false)
       (λ s x. step-is-clauses n s (x .0) (x .1) false) (λ s x. sound-next n s (x .0) (x .1) false) (0, 0)
       (fresh n need word) (zip a b) start (nowhere (outsidePair n) (zip a b) (0, 0) (fine .samples-in)))
@@ -71,9 +71,10 @@ pub run-is-steps :
     (n need word : ℕ) (a b words marks words′ marks′ : List ℕ)
     → Ran n need word a b words marks Done words′ marks′ → Stepwise n need word a b words′ marks′
 run-is-steps n need word a b words marks words′ marks′ ran =
+    let f = fine n need word a b words marks (sym (ran .answered)) in
     let same = same-steps n need word a b words marks (sym (ran .answered)) in
     record {
-      made = rw (made-fresh n need word a b words marks (sym (ran .answered)));
+      made = rw (made-fresh n need word (run-makes _ _ _ _ _ _ f));
       words-same = ran .words-after ∙ ap (map shownWord) same;
       marks-same = ran .marks-after ∙ ap (map shownMark) same;
     }

@@ -1,11 +1,10 @@
 -- `confirm::run` meets its contract: a refused run leaves every slice, and where none is refused the lengths are alike.
 use mathlib.Core.Path.{_≡_, sym, _∙_}
-use mathlib.Core.Bool.{false, _||_}
-use Prim.Native.Nat.{ℕ}
+use mathlib.Core.Bool.{false}
 use borrow.Author.Needs.{needs}
-use Rattle.rules.specs.Limits.{differ, outside}
+use Rattle.rules.specs.Limits.{outside}
 use Rattle.rules.proofs.Ranges.{same}
-use Rattle.rules.proofs.Tables.{or-neither}
+use Rattle.rules.proofs.Tables.{or-each}
 use Rattle.trace.proofs.Runs.{answer-done}
 use Rattle.confirm.specs.Run.{answerOf, unequal}
 use Rattle.confirm.proofs.run.Statement.{statement}
@@ -25,14 +24,10 @@ alike : (c : tie.After-enum-told) → let a = c .before .before .before .before 
     unequal (a .samples .now) (a .words .now) (a .marks .now) (a .counts .now) ≡ false
 alike c = answer-done _ _ _ _ _ outside _ (sym (answered (c .before .before)) ∙ c .enum-told .given .1) .alike
 
-three : (a b c d : ℕ) → differ a b || differ a c || differ a d ≡ false → (a ≡ b) × ((a ≡ c) × (a ≡ d))
-three a b c d e =
-    let p = or-neither (differ a b || differ a c) (differ a d) e in
-    let q = or-neither (differ a b) (differ a c) (p .0) in
-    (same a b (q .0), (same a c (q .1), same a d (p .1)))
-
 write-steps-requires : tie.Need-write-steps-requires
-write-steps-requires c κs = three _ _ _ _ (alike (c .before .before .before .before))
+write-steps-requires c κs =
+    let p = or-each (or-each (same _ _) (same _ _)) (same _ _) (alike (c .before .before .before .before)) in
+    (p .0 .0, (p .0 .1, p .1))
 
 returns-2 : tie.Need-returns-2
 returns-2 c =

@@ -1,19 +1,18 @@
 -- `reserve::run` meets its contract: a refused run leaves every slice, and where none is refused the lengths are alike.
 use mathlib.Core.Path.{_≡_, sym, ap, _∙_}
-use mathlib.Core.Bool.{false, _||_}
-use Prim.Native.Nat.{ℕ}
+use mathlib.Core.Bool.{_||_}
 use borrow.Author.Needs.{needs}
 use lib.ListN.{length}
 use Rattle.rules.specs.Limits.{badCount, tooLong, differ}
 use Rattle.rules.proofs.Ranges.{same}
-use Rattle.rules.proofs.Readings.{Runs}
-use Rattle.rules.proofs.Tables.{or-neither}
+use Rattle.rules.proofs.Readings.{Runs, run-makes}
+use Rattle.rules.proofs.Tables.{or-each}
 use Rattle.trace.specs.Samples.{somewhere, outsideFour}
 use Rattle.trace.proofs.Runs.{answer-done}
 use Rattle.reserve.specs.declared.ReserveMade.{ReserveMade}
 use Rattle.reserve.specs.Reserve.{fresh}
 use Rattle.reserve.specs.Run.{samplesOf, unequal, answerOf}
-use Rattle.reserve.proofs.Fresh.{made-fresh}
+use Rattle.reserve.proofs.Stepwise.{made-fresh}
 use Rattle.reserve.proofs.run.Statement.{statement}
 use Rattle.reserve.proofs.run.Tie as tie
 
@@ -35,25 +34,19 @@ fine : (c : tie.After-enum-told) → let x = c .before .before .before .before .
     (somewhere (outsideFour (x .n)) (samplesOf a b c d))
 fine c = answer-done _ _ _ _ _ outsideFour _ (sym (answered (c .before .before)) ∙ c .enum-told .given .1)
 
-five :
-    (a b c d w m : ℕ) → differ a b || differ a c || differ a d || (differ a w || differ a m) ≡ false
-    → ((a ≡ b) × (a ≡ c) × (a ≡ d)) × ((a ≡ w) × (a ≡ m))
-five a b c d w m e =
-    let p = or-neither (differ a b || differ a c || differ a d) (differ a w || differ a m) e in
-    let q = or-neither (differ a b || differ a c) (differ a d) (p .0) in
-    let r = or-neither (differ a b) (differ a c) (q .0) in
-    let s = or-neither (differ a w) (differ a m) (p .1) in
-    ((same a b (r .0), same a c (r .1), same a d (q .1)), (same a w (s .0), same a m (s .1)))
-
 write-steps-requires : tie.Need-write-steps-requires
-write-steps-requires c κs = five _ _ _ _ _ _ (fine (c .before .before .before .before) .alike)
+write-steps-requires c κs =
+    let columns = or-each (or-each (same _ _) (same _ _)) (same _ _) in
+    let slices = or-each (same _ _) (same _ _) in
+    let p = or-each columns slices (fine (c .before .before .before .before) .alike) in
+    ((p .0 .0 .0, p .0 .0 .1, p .0 .1), p .1)
 
 -- the run starts from the fresh state
 start : (c : tie.After-from-word) → let x = c .before .before .before .before .before .before .before .before .before .before .before .args in
     c .from-word .result .state ≡ fresh (x .n) (x .need) (x .word)
 start c =
     let f = fine (c .before) in
-    ap (λ (m : ReserveMade). m .state) (c .from-word .ensures ∙ made-fresh _ _ _ (f .counted) (f .wide) (f .word-in))
+    ap (λ (m : ReserveMade). m .state) (c .from-word .ensures ∙ made-fresh _ _ _ (run-makes _ _ _ _ _ _ f))
 
 returns-2 : tie.Need-returns-2
 returns-2 c =

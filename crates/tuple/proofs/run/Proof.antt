@@ -1,14 +1,13 @@
 -- `tuple::run` meets its contract: a refused run leaves every slice, and where none is refused the lengths are alike.
 use mathlib.Core.Path.{_≡_, sym, _∙_}
 use mathlib.Core.List.{zip}
-use mathlib.Core.Bool.{false, _||_}
-use Prim.Native.Nat.{ℕ}
+use mathlib.Core.Bool.{_||_}
 use borrow.Author.Needs.{needs}
 use lib.ListN.{length}
 use Rattle.rules.specs.Limits.{badCount, tooLong, differ}
 use Rattle.rules.proofs.Ranges.{same, width-range}
 use Rattle.rules.proofs.Readings.{Runs}
-use Rattle.rules.proofs.Tables.{or-neither}
+use Rattle.rules.proofs.Tables.{or-each}
 use Rattle.trace.specs.Samples.{somewhere, outsidePair}
 use Rattle.trace.proofs.Runs.{answer-done}
 use Rattle.tuple.specs.Run.{answerOf, unequal}
@@ -31,18 +30,12 @@ accepted : (c : tie.After-enum-told) → let a = c .before .before .before .befo
     (somewhere (outsidePair (a .n)) (zip (a .a .now) (a .b .now)))
 accepted c = answer-done _ _ _ _ _ outsidePair _ (sym (answered (c .before .before)) ∙ c .enum-told .given .1)
 
-four : (a b c d e : ℕ) → differ a b || (differ a c || differ a d || differ a e) ≡ false → (a ≡ b) × ((a ≡ c) × ((a ≡ d) × (a ≡ e)))
-four a b c d e h =
-    let p = or-neither (differ a b) (differ a c || differ a d || differ a e) h in
-    let q = or-neither (differ a c || differ a d) (differ a e) (p .1) in
-    let r = or-neither (differ a c) (differ a d) (q .0) in
-    (same a b (p .0), (same a c (r .0), (same a d (r .1), same a e (q .1))))
-
 write-steps-requires : tie.Need-write-steps-requires
 write-steps-requires c κs =
     let f = c .before .before .before in
     let ok = accepted (f .before) in
-    (rw (f .fresh .ensures) (width-range _ (ok .wide) .1), four _ _ _ _ _ (ok .alike))
+    let p = or-each (same _ _) (or-each (or-each (same _ _) (same _ _)) (same _ _)) (ok .alike) in
+    (rw (f .fresh .ensures) (width-range _ (ok .wide) .1), (p .0, (p .1 .0 .0, (p .1 .0 .1, p .1 .1))))
 
 returns-2 : tie.Need-returns-2
 returns-2 c =

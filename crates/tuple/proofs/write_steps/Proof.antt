@@ -1,5 +1,5 @@
 -- `tuple::write_steps` meets its contract. The invariant: each slice is written before i, and the samples from i on give the rest.
-use mathlib.Core.Path.{_≡_, _∙_, ap}
+use mathlib.Core.Path.{_≡_}
 use Prim.Native.Nat.{_-_, _≤_}
 use native.Mathlib.Omega.{arith}
 use borrow.Author.Needs.{needs}
@@ -7,7 +7,7 @@ use lib.ListN.{length}
 use Rattle.trace.proofs.FillPairs.{FilledPair, start-pair, turn-pair, filled-pair}
 use Rattle.tuple.specs.Run.{stepped, leaves, shownWord, shownMask, shownMark}
 use Rattle.tuple.specs.Tuple.{width}
-use Rattle.tuple.proofs.Sizes.{same-sizes}
+use Rattle.tuple.proofs.Clauses.{same-sizes}
 use Rattle.tuple.proofs.write_steps.Statement.{statement}
 use Rattle.tuple.proofs.write_steps.Tie as tie
 

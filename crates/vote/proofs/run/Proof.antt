@@ -1,12 +1,11 @@
 -- `vote::run` meets its contract: a refused run leaves every slice, and where none is refused the lengths are alike.
 use mathlib.Core.Path.{_≡_, sym, _∙_}
 use mathlib.Core.Bool.{false, _||_}
-use Prim.Native.Nat.{ℕ}
 use borrow.Author.Needs.{needs}
 use lib.ListN.{length}
 use Rattle.rules.specs.Limits.{differ}
 use Rattle.rules.proofs.Ranges.{same}
-use Rattle.rules.proofs.Tables.{or-neither}
+use Rattle.rules.proofs.Tables.{or-each}
 use Rattle.trace.specs.Samples.{outsidePair}
 use Rattle.trace.proofs.Runs.{answer-done}
 use Rattle.vote.specs.Run.{answerOf, unequal}
@@ -27,14 +26,8 @@ alike : (c : tie.After-enum-told) → let a = c .before .before .before .before 
     differ (length (a .a .now)) (length (a .b .now)) || unequal (a .a .now) (a .words .now) (a .marks .now) ≡ false
 alike c = answer-done _ _ _ _ _ outsidePair _ (sym (answered (c .before .before)) ∙ c .enum-told .given .1) .alike
 
-three : (a b c d : ℕ) → differ a b || (differ a c || differ a d) ≡ false → (a ≡ b) × ((a ≡ c) × (a ≡ d))
-three a b c d e =
-    let p = or-neither (differ a b) (differ a c || differ a d) e in
-    let q = or-neither (differ a c) (differ a d) (p .1) in
-    (same a b (p .0), (same a c (q .0), same a d (q .1)))
-
 write-steps-requires : tie.Need-write-steps-requires
-write-steps-requires c κs = three _ _ _ _ (alike (c .before .before .before))
+write-steps-requires c κs = or-each (same _ _) (or-each (same _ _) (same _ _)) (alike (c .before .before .before))
 
 returns-2 : tie.Need-returns-2
 returns-2 c =

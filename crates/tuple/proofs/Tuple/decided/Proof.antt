@@ -1,5 +1,5 @@
 -- `Tuple::decided` meets its contract: an alarm, or a step of confirmation.
-use mathlib.Core.Path.{_≡_, _∙_}
+use mathlib.Core.Path.{_∙_}
 use borrow.Author.Tests.{eq-eqb, ne-eqb}
 use Rattle.tuple.proofs.Tuple.decided.Statement.{statement}
 use Rattle.tuple.proofs.Tuple.decided.Tie as tie
