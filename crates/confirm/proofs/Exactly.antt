@@ -6,12 +6,13 @@ use mathlib.Core.Bool.{Bool, true, false, not}
 use Prim.Native.Nat.{ℕ, _-_}
 use lib.ListN.{length}
 use lib.Dec.{ltb, eqb}
-use Rattle.rules.specs.Limits.{badCount, badWidth, tooLong, outside}
-use Rattle.rules.specs.Table.{first, Given, numbered}
+use Rattle.rules.specs.Limits.{badCount, tooLong, outside}
+use Rattle.rules.specs.Table.{Given, numbered}
 use Rattle.rules.specs.Refusals.{makeRows, runRows}
+use Rattle.rules.proofs.Readings.{Makes}
 use Rattle.rules.proofs.Tables.{exactly-when}
-use Rattle.trace.specs.Samples.{firstWhere, somewhere, Smallest}
-use Rattle.trace.specs.Answers.{runNumber, runSample, runAnswer}
+use Rattle.trace.specs.Samples.{somewhere, Smallest}
+use Rattle.trace.specs.Answers.{runNumber, runSample}
 use Rattle.trace.specs.declared.RunAnswer.{RunAnswer}
 use Rattle.trace.specs.declared.RunAnswer.the-variants.{Done}
 use Rattle.trace.proofs.Runs as runs
@@ -57,6 +58,5 @@ module _ (n need word : ℕ) (samples words marks counts : List ℕ) where
   run-others = runs.other-zero _ _ _ _ _ outside samples
 
 -- an empty trace is accepted; as there is no place, nothing is written
-pub empty-taken : (n need word : ℕ) → badCount need ≡ false → badWidth n ≡ false → outside n word ≡ false → answerOf n need word [] [] [] [] ≡ Done
-unfolding runAnswer first firstWhere
-empty-taken n need word c w o = simp (c, w, o)
+pub empty-taken : (n need word : ℕ) → Makes (badCount need) n word → answerOf n need word [] [] [] [] ≡ Done
+empty-taken n need word = runs.empty-done outside (badCount need) n word

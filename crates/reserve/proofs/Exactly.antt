@@ -2,17 +2,19 @@
 -- `new` is `from_word` of the default word.
 use mathlib.Core.Path.{_≡_, refl}
 use mathlib.Core.Logic.{_↔_}
-use mathlib.Core.List.{List}
+use mathlib.Core.List.{List, [], zip}
 use mathlib.Core.Bool.{true, false, _||_}
 use Prim.Native.Nat.{ℕ}
 use lib.ListN.{length}
 use Rattle.rules.specs.Limits.{badCount, tooLong, differ}
 use Rattle.rules.specs.Table.{Given, numbered}
 use Rattle.rules.specs.Refusals.{makeRows, runRows}
+use Rattle.rules.proofs.Readings.{Makes}
 use Rattle.rules.proofs.Tables.{exactly-when}
 use Rattle.trace.specs.Samples.{somewhere, Smallest, outsideFour}
 use Rattle.trace.specs.Answers.{runNumber, runSample}
 use Rattle.trace.specs.declared.RunAnswer.{RunAnswer}
+use Rattle.trace.specs.declared.RunAnswer.the-variants.{Done}
 use Rattle.trace.proofs.Runs as runs
 use Rattle.vote.specs.Answers.{numberOf}
 use Rattle.vote.proofs.Exactly.{none-refused as vote-none-refused}
@@ -59,3 +61,8 @@ module _ (n need word : ℕ) (a b c d words marks : List ℕ) where
 
   pub run-others : (runNumber answered ≡ 6 → ⊥) → runSample answered ≡ 0
   run-others = runs.other-zero _ _ _ _ _ outsideFour (samplesOf a b c d)
+
+-- an empty trace is accepted; as there is no place, nothing is written
+pub empty-taken : (n need word : ℕ) → Makes (badCount need) n word → answerOf n need word [] [] [] [] [] [] ≡ Done
+unfolding zip
+empty-taken n need word = runs.empty-done outsideFour (badCount need) n word

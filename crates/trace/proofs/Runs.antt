@@ -1,7 +1,7 @@
 -- Every run's answer: what is known before a sample is read, the last row, and when each number is given.
 use mathlib.Core.Path.{_≡_, refl, sym, ap, _∙_}
 use mathlib.Core.Logic.{_↔_}
-use mathlib.Core.List.{List}
+use mathlib.Core.List.{List, []}
 use mathlib.Core.Bool.{Bool, true, false, false≢true}
 use Prim.Native.Nat.{ℕ}
 use native.Mathlib.Omega.{arith}
@@ -17,7 +17,7 @@ use Rattle.trace.specs.Answers.{runNumber, runSample, notRun, runAnswer,
 use Rattle.trace.specs.declared.RunAnswer.{RunAnswer}
 use Rattle.trace.specs.declared.RunAnswer.the-variants.{Done, Refused}
 use Rattle.trace.proofs.Samples.{smallest}
-use Rattle.rules.proofs.Readings.{Runs, run-exactly, run-0}
+use Rattle.rules.proofs.Readings.{Makes, Runs, run-exactly, run-0}
 use Rattle.rules.proofs.Tables.{own-number}
 
 shown : (k s : ℕ) → runSample (answer k (notRun s) Done) ≡ (if eqb k 6 then s else 0)
@@ -35,7 +35,7 @@ module _ (miscounted : Bool) (n word : ℕ) (long unequal : Bool) where
   not-six : early ≡ 6 → ⊥
   not-six e = false≢true (run-exactly miscounted n word long unequal false 6 .0 e .1 .1 .1 .1 .1)
 
-  -- the last row miscounted where nothing is refused before it
+  -- the last row counts where nothing is refused before it
   late : (b : Bool) → first (runRows miscounted n word long unequal b) ≡ orElse early 6 b
   unfolding first
   late b = go miscounted (badWidth n) long unequal (outside n word)
@@ -94,3 +94,8 @@ module _ (miscounted : Bool) (n word : ℕ) (long unequal : Bool) where
 
     pub other-zero : (runNumber answered ≡ 6 → ⊥) → runSample answered ≡ 0
     other-zero h = rw (run-sample, ne-eqb (runNumber answered) 6 h)
+
+-- an empty trace is accepted
+pub empty-done : {X : Type 0} (out : ℕ → X → Bool) (miscounted : Bool) (n word : ℕ) → Makes miscounted n word → runAnswer out miscounted n word false false [] ≡ Done
+unfolding runAnswer first firstWhere
+empty-done out miscounted n word m = simp (m .counted, m .wide, m .word-in)

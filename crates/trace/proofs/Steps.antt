@@ -43,13 +43,16 @@ unfolding trace left
 trace-append step next s [] ys = refl
 trace-append step next s (x ∷ xs) ys = rw (trace-append step next (next (step s x)) xs ys)
 
--- a part of the state that steps by itself is followed through the run by its own steps
+-- a part of the state that steps by itself is followed through the run by its own steps, and so is all that they show
 module _ {S X T S′ X′ T′ : Type 0} (step : S → X → T) (next : T → S) (step′ : S′ → X′ → T′) (next′ : T′ → S′) (part : S → S′) (seen : X → X′) (Good : S → Type 0) where
   pub follows :
-      ((s : S) (x : X) → Good s → part (next (step s x)) ≡ next′ (step′ (part s) (seen x)))
+      {A : Type 0} (shown : T → A) (shown′ : T′ → A)
+      → ((s : S) (x : X) → Good s → part (next (step s x)) ≡ next′ (step′ (part s) (seen x)))
+      → ((s : S) (x : X) → Good s → shown (step s x) ≡ shown′ (step′ (part s) (seen x)))
       → ((s : S) (x : X) → Good s → Good (next (step s x)))
       → (s : S) (xs : List X) → Good s
-      → map (λ (t : T). part (next t)) (trace step next s xs) ≡ map next′ (trace step′ next′ (part s) (map seen xs))
+      → map shown (trace step next s xs) ≡ map shown′ (trace step′ next′ (part s) (map seen xs))
   unfolding trace
-  follows same keeps s [] g = refl
-  follows same keeps s (x ∷ xs) g = rw (← same s x g) (ap (λ (l : List S′). part (next (step s x)) ∷ l) (follows same keeps (next (step s x)) xs (keeps s x g)))
+  follows shown shown′ same shows keeps s [] g = refl
+  follows {A} shown shown′ same shows keeps s (x ∷ xs) g =
+      rw (← same s x g, ← shows s x g) (ap (λ (l : List A). shown (step s x) ∷ l) (follows shown shown′ same shows keeps (next (step s x)) xs (keeps s x g)))

@@ -1,4 +1,4 @@
--- What the clauses of a tuple keep, alarm or not: the width, both Ns, and what the voters left.
+-- What the clauses of a tuple keep, alarm or not: the width, N, and what the voters left.
 use mathlib.Core.Path.{_≡_, refl}
 use mathlib.Core.Bool.{Bool, true, false, not}
 use Prim.Native.Nat.{ℕ}

@@ -1,19 +1,21 @@
--- Each number of each call is given exactly when its table says so; `Readings` of rules reads the tables out, number by number.
--- `new` is `from_word` of the default word.
+-- Each number of each call is given exactly when its table says so; `Readings` of rules reads the tables out, number by number,
+-- but for a step's last row, 8 (`eight-never`). `new` is `from_word` of the default word.
 use mathlib.Core.Path.{_≡_, refl}
 use mathlib.Core.Logic.{_↔_}
-use mathlib.Core.List.{List, zip}
+use mathlib.Core.List.{List, [], zip, List·Memᴰ}
 use mathlib.Core.Bool.{Bool, true, false, not, _||_}
-use Prim.Native.Nat.{ℕ}
+use Prim.Native.Nat.{ℕ, _≤_}
 use lib.Dec.{eqb}
 use lib.ListN.{length}
 use Rattle.rules.specs.Limits.{badCount, tooLong, differ}
-use Rattle.rules.specs.Table.{Given, numbered}
+use Rattle.rules.specs.Table.{_when_, first, Given, numbered, rising}
 use Rattle.rules.specs.Refusals.{makeRows, runRows}
-use Rattle.rules.proofs.Tables.{exactly-when}
+use Rattle.rules.proofs.Readings.{Makes}
+use Rattle.rules.proofs.Tables.{exactly-when, lowest}
 use Rattle.trace.specs.Samples.{somewhere, Smallest, outsidePair}
 use Rattle.trace.specs.Answers.{runNumber, runSample}
 use Rattle.trace.specs.declared.RunAnswer.{RunAnswer}
+use Rattle.trace.specs.declared.RunAnswer.the-variants.{Done}
 use Rattle.trace.proofs.Runs as runs
 use Rattle.confirm.specs.Answers.{numberOf as confirmNumber}
 use Rattle.confirm.specs.declared.ConfirmAnswer.{ConfirmAnswer}
@@ -49,6 +51,11 @@ pub step-exactly : (s : Tuple) (a b k : ℕ) → (numberOf (stepOf s a b .answer
 unfolding stepOf numbered
 step-exactly s a b = exactly-when (λ (t : TupleStep). numberOf (t .answer)) (rowsOf s a b) (notTaken s) (clauses s a b) refl (λ k. refl) (none-refused s a b)
 
+-- where several apply, the lowest number is given
+pub step-lowest : (s : Tuple) (a b j : ℕ) → List·Memᴰ (j when true) (rowsOf s a b) → first (rowsOf s a b) ≤ j
+unfolding rising
+step-lowest s a b = lowest 0 (rowsOf s a b) refl
+
 module _ (n need word : ℕ) (a b words masks marks : List ℕ) where
   abbrev answered : RunAnswer
   answered = answerOf n need word a b words masks marks
@@ -64,3 +71,8 @@ module _ (n need word : ℕ) (a b words masks marks : List ℕ) where
 
   pub run-others : (runNumber answered ≡ 6 → ⊥) → runSample answered ≡ 0
   run-others = runs.other-zero _ _ _ _ _ outsidePair (zip a b)
+
+-- an empty trace is accepted; as there is no place, nothing is written
+pub empty-taken : (n need word : ℕ) → Makes (badCount need) n word → answerOf n need word [] [] [] [] [] ≡ Done
+unfolding zip
+empty-taken n need word = runs.empty-done outsidePair (badCount need) n word

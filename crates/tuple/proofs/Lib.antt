@@ -1,3 +1,4 @@
+pub mod Calls
 pub mod Clauses
 pub mod Exactly
 pub mod Masks

@@ -5,7 +5,7 @@ use mathlib.Core.Bool.{Bool, true, false, not}
 use Prim.Native.Nat.{ℕ, _<_}
 use native.Mathlib.Omega.{arith}
 use lib.Dec.{eqb}
-use borrow.Author.Tests.{eqb-true, not-false}
+use borrow.Author.Tests.{eqb-true, eqb-false, not-false, not-true}
 use Rattle.rules.specs.Bits.{bit}
 use Rattle.rules.specs.Limits.{outside}
 use Rattle.rules.proofs.Signals.{word-bit, word-zero}
@@ -18,8 +18,8 @@ use Rattle.vote.specs.Vote as vote
 use Rattle.vote.specs.declared.VoteAnswer.{VoteAnswer}
 use Rattle.vote.specs.declared.VoteAnswer.the-variants.{Agreed as VoteAgreed, Held as VoteHeld, Alarm as VoteAlarm, Refused as VoteRefused}
 use Rattle.tuple.specs.declared.Tuple.{Tuple}
-use Rattle.tuple.specs.Answers.{maskOf}
-use Rattle.tuple.specs.Run.{shownMask}
+use Rattle.tuple.specs.Answers.{maskOf, markOf as tupleMark}
+use Rattle.tuple.specs.Run.{shownMask, shownMark}
 use Rattle.tuple.specs.Tuple.{width, voteNeed, voter, alarmBit, votersOf, confirmedAs, clauses}
 use Rattle.tuple.proofs.Clauses.{byTest}
 use Rattle.tuple.proofs.Small.{alarm-small, masks-small}
@@ -29,11 +29,22 @@ no-mask (Confirmed w) = refl
 no-mask (Held w) = refl
 no-mask (Refused k) = refl
 
+no-alarm : (x : ConfirmAnswer) → tupleMark (confirmedAs x) ≡ 2 → ⊥
+no-alarm (Confirmed w) e = omega arith
+no-alarm (Held w) e = omega arith
+no-alarm (Refused k) e = omega arith
+
 silent : (v : VoteAnswer) → (alarmBit v ≡ 0) ↔ (markOf v ≡ 2 → ⊥)
 silent (VoteAgreed w) = (λ e m. omega arith, λ h. refl)
 silent (VoteHeld w) = (λ e m. omega arith, λ h. refl)
 silent (VoteAlarm w) = (λ e m. omega arith, λ h. absurd (h refl))
 silent (VoteRefused k) = (λ e m. omega arith, λ h. refl)
+
+pub one-at : (v : VoteAnswer) → (alarmBit v ≡ 1) ↔ (markOf v ≡ 2)
+one-at (VoteAgreed w) = (λ e. absurd (omega arith), λ e. absurd (omega arith))
+one-at (VoteHeld w) = (λ e. absurd (omega arith), λ e. absurd (omega arith))
+one-at (VoteAlarm w) = (λ e. refl, λ e. refl)
+one-at (VoteRefused k) = (λ e. absurd (omega arith), λ e. absurd (omega arith))
 
 module _ (s : Tuple) (a b : ℕ) where
   -- the mask that is shown is the voters', alarm or not
@@ -43,6 +54,16 @@ module _ (s : Tuple) (a b : ℕ) where
     go : (p : Bool) → not (eqb (votersOf s a b .mask) 0) ≡ p → shownMask (byTest s (votersOf s a b) p) ≡ votersOf s a b .mask
     go true e = refl
     go false e = no-mask (confirm.clauses (s .confirm) (votersOf s a b .word) .answer) ∙ sym (eqb-true (votersOf s a b .mask) 0 (not-false (eqb (votersOf s a b .mask) 0) e))
+
+  -- an alarm is shown exactly when the mask is not zero
+  pub mark-exactly : (shownMark (clauses s a b) ≡ 2) ↔ (shownMask (clauses s a b) ≡ 0 → ⊥)
+  unfolding clauses
+  mark-exactly = go (not (eqb (votersOf s a b .mask) 0)) refl where
+    go : (p : Bool) → not (eqb (votersOf s a b .mask) 0) ≡ p → let t = byTest s (votersOf s a b) p in (shownMark t ≡ 2) ↔ (shownMask t ≡ 0 → ⊥)
+    go true e = (λ m. eqb-false (votersOf s a b .mask) 0 (not-true (eqb (votersOf s a b .mask) 0) e), λ h. refl)
+    go false e =
+        let x = confirm.clauses (s .confirm) (votersOf s a b .word) .answer in
+        (λ m. absurd (no-alarm x m), λ h. absurd (h (no-mask x)))
 
   abbrev vote-of : ℕ → VoteAnswer
   vote-of i = vote.clauses (voter s i) (bit i a) (bit i b) false .answer

@@ -10,14 +10,18 @@ use Rattle.vote.specs.Vote as vote
 use Rattle.vote.specs.declared.Vote.{Vote}
 use Rattle.vote.proofs.Clauses.{same-sizes as vote-sizes}
 use Rattle.tuple.specs.declared.Tuple.{Tuple}
-use Rattle.tuple.specs.Tuple.{width, voteNeed, voter, signalVote, clauses}
+use Rattle.tuple.specs.Tuple.{width, voteNeed, fresh, voterOf, voter, signalVote, clauses}
 use Rattle.tuple.proofs.Clauses.{same-sizes, voters-left}
-use Rattle.tuple.proofs.Small.{word-bit-small}
+use Rattle.tuple.proofs.Small.{word-bit-small, zeros}
 
 same-vote :
     (v : Vote) {n need word count : ℕ} → n ≡ v .n → need ≡ v .need → word ≡ v .word → count ≡ v .count
     → _≡_ {A = Vote} (record { n = n; need = need; word = word; count = count }) v
 same-vote v p q r t = rw (p, q, r, t)
+
+-- and it starts from its bit of the initial word
+pub voter-fresh : (n need word i : ℕ) → voter (fresh n need word) i ≡ vote.fresh 1 need (bit i word)
+voter-fresh n need word i = ap (λ (count : ℕ). voterOf need word count i) (zeros 32 i)
 
 module _ (s : Tuple) (a b : ℕ) where
   pub per-signal : (i : ℕ) → i < width s → voter (clauses s a b .state) i ≡ vote.clauses (voter s i) (bit i a) (bit i b) false .state

@@ -1,9 +1,10 @@
--- What a signal's voter gives is a bit, so what is put together from them is a word inside the width.
+-- What a signal's voter gives is a bit, so what is put together from them is a word inside the width. Fresh counts are zero.
+use mathlib.Core.Path.{_≡_, refl}
 use mathlib.Core.List.{List}
 use mathlib.Core.Bool.{Bool, true, false}
-use Prim.Native.Nat.{ℕ, _-_, _<_, _^_}
+use Prim.Native.Nat.{ℕ, zero, suc, _-_, _<_, _^_}
 use lib.Dec.{ltb, eqb, lit<}
-use lib.ListN.{getD}
+use lib.ListN.{getD, replicate}
 use Rattle.rules.specs.Bits.{bit}
 use Rattle.rules.specs.Signals.{asWord}
 use Rattle.rules.proofs.Signals.{bit-small, word-small}
@@ -12,6 +13,11 @@ use Rattle.vote.specs.declared.VoteAnswer.{VoteAnswer}
 use Rattle.vote.specs.declared.VoteAnswer.the-variants.{Agreed, Held, Alarm, Refused}
 use Rattle.vote.proofs.Clauses.{byTests}
 use Rattle.tuple.specs.Tuple.{voterOf, signalVote, alarmBit}
+
+pub zeros : (k i : ℕ) → _≡_ {A = ℕ} (getD (replicate k 0) i 0) 0
+zeros zero i = refl
+zeros (suc k) zero = refl
+zeros (suc k) (suc i) = zeros k i
 
 pub alarm-small : (v : VoteAnswer) → alarmBit v < 2
 alarm-small (Agreed w) = lit< tt

@@ -1,7 +1,7 @@
 -- A state that a step takes: the clauses leave such a state again, number 8 is never given, and a fresh state is one.
 use mathlib.Core.Path.{_≡_, refl}
 use mathlib.Core.Bool.{Bool, true, false, not}
-use Prim.Native.Nat.{ℕ, zero, suc, _-_, _≤_, _<_}
+use Prim.Native.Nat.{ℕ, _-_, _≤_, _<_}
 use native.Mathlib.Omega.{arith}
 use lib.Dec.{ltb, eqb}
 use lib.ListN.{getD, replicate}
@@ -19,7 +19,7 @@ use Rattle.vote.proofs.Stepwise as votes
 use Rattle.tuple.specs.declared.Tuple.{Tuple}
 use Rattle.tuple.specs.Tuple.{width, voteNeed, fresh, voter, signalVote, votersOf, badPlace, badPlaces, badState, clauses}
 use Rattle.tuple.proofs.Clauses.{byTest}
-use Rattle.tuple.proofs.Small.{words-small}
+use Rattle.tuple.proofs.Small.{words-small, zeros}
 
 pub record Sound (n : ℕ) (s : Tuple) : Type 0 where
   pub confirm-sound : confirmed.Sound n (s .confirm)
@@ -67,7 +67,7 @@ module _ (n : ℕ) (s : Tuple) (g : Sound n s) where
   word-next : (a b : ℕ) → outside n (votersOf s a b .word) ≡ false
   word-next a b = rw (← g .confirm-sound .width) (never-8 s a b)
 
-  -- after an accepted step number 7 is not given
+  -- the clauses leave such a state again
   pub sound-next : (a b : ℕ) → Sound n (clauses s a b .state)
   unfolding clauses
   sound-next a b = go (not (eqb (votersOf s a b .mask) 0)) where
@@ -81,11 +81,6 @@ module _ (n : ℕ) (s : Tuple) (g : Sound n s) where
         }
 
 -- a fresh state is one
-zeros : (k i : ℕ) → _≡_ {A = ℕ} (getD (replicate k 0) i 0) 0
-zeros zero i = refl
-zeros (suc k) zero = refl
-zeros (suc k) (suc i) = zeros k i
-
 pub fresh-sound : (n need word : ℕ) → badCount need ≡ false → badWidth n ≡ false → outside n word ≡ false → Sound n (fresh n need word)
 fresh-sound n need word c w o =
     record {

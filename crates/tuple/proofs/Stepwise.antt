@@ -48,10 +48,10 @@ module _ (s : Tuple) (a b : ℕ) (taken : first (earlyRows s a b) ≡ 0) where
         agreed-in = q .1;
       }
 
-  -- after an accepted step number 7 is not given
-  pub step-keeps : badState (stepOf s a b .state) ≡ false
+  -- and it leaves one
+  pub sound-left : badState (stepOf s a b .state) ≡ false
   unfolding stepOf
-  step-keeps = rw (← eight s a b taken false (never-8 s a b)) (not-bad (width s) (clauses s a b .state) (sound-next (width s) s sound a b))
+  sound-left = rw (← eight s a b taken false (never-8 s a b)) (not-bad (width s) (clauses s a b .state) (sound-next (width s) s sound a b))
 
 -- a constructor that refuses nothing makes the fresh state
 pub made-fresh : (n need word : ℕ) → Makes (badCount need) n word → madeOf n need word ≡ made n need word

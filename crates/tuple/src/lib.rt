@@ -257,8 +257,9 @@ impl Tuple {
         }
         let v = self.voters(a, b);
         let confirm = self.confirm;
-        let wide = rules::outside(confirm.n, v.word);
-        if wide {
+        // The table has 8, so it is tested; `eight-never` shows that it is not given.
+        let outlying = rules::outside(confirm.n, v.word);
+        if outlying {
             return self.refused(8);
         }
         self.decided(v)

@@ -10,6 +10,9 @@ ghost use Rattle.rules.specs.Bits.{bit};
 ghost use Rattle.vote.specs.Vote.{clauses as voteClauses};
 ghost use Rattle.tuple.specs.Tuple.{voterOf, alarmBit, voters, badPlace, badPlaces};
 
+// A place for each signal that a word can have.
+const PLACES: usize = 32;
+
 // Signal i of a word.
 fn signal(i: usize, w: u32) -> u32
     requires { ⌜ i ≤ 31 ⌝ }
@@ -100,7 +103,7 @@ pub(crate) fn bad_places(n: usize, need: u32, counts: [u32; 32]) -> bool
 {
     let mut bad = false;
     let mut i = 0usize;
-    while i < 32 {
+    while i < PLACES {
         bad = bad | bad_place(n, need, counts[i], i);
         i += 1;
     }

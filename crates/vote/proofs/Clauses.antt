@@ -45,6 +45,16 @@ module _ (s : Vote) where
     go false false true h = (refl, refl)
     go false false false h = (refl, refl)
 
+  -- the word that is shown is the one that stays
+  pub shown-stays : (a b : ℕ) (reset : Bool) → shownWord (clauses s a b reset) ≡ clauses s a b reset .state .word
+  unfolding clauses
+  shown-stays a b reset = go (eqb a b) reset (ltb (s .count) (s .need - 1)) where
+    go : (p q r : Bool) → shownWord (byTests s a p q r) ≡ byTests s a p q r .state .word
+    go true q r = refl
+    go false true r = refl
+    go false false true = refl
+    go false false false = refl
+
   pub same-sizes : (a b : ℕ) (reset : Bool) → (clauses s a b reset .state .n ≡ s .n) × (clauses s a b reset .state .need ≡ s .need)
   unfolding clauses
   same-sizes a b reset = go (eqb a b) reset (ltb (s .count) (s .need - 1)) where

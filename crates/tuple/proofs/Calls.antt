@@ -1,0 +1,44 @@
+-- The state's theorems in the words of the public calls: number 8 is never given, a fresh state is fit for a step, and after an
+-- accepted step number 7 is not given.
+use mathlib.Core.Path.{_≡_, refl, sym, ap, _∙_}
+use mathlib.Core.Bool.{false, _||_, false≢true}
+use Prim.Native.Nat.{ℕ}
+use Rattle.rules.specs.Limits.{badCount, outside}
+use Rattle.rules.specs.Table.{first, numbered}
+use Rattle.rules.specs.Refusals.{makeRows}
+use Rattle.rules.proofs.Readings.{make-0}
+use Rattle.rules.proofs.Tables.{own-number, stays}
+use Rattle.tuple.specs.declared.Tuple.{Tuple}
+use Rattle.tuple.specs.declared.TupleMade.{TupleMade}
+use Rattle.tuple.specs.declared.TupleStep.{TupleStep}
+use Rattle.tuple.specs.Answers.{numberOf}
+use Rattle.tuple.specs.Tuple.{fresh, clauses, made, notMade, madeOf, earlyRows, rowsOf, notTaken, stepOf}
+use Rattle.tuple.proofs.Exactly.{none-refused, step-exactly}
+use Rattle.tuple.proofs.Rows.{last-row}
+use Rattle.tuple.proofs.Sound.{never-8, fresh-sound}
+use Rattle.tuple.proofs.Stepwise.{made-fresh, step-is-clauses, sound-left}
+
+module _ (s : Tuple) (a b : ℕ) where
+  pub eight-never : numberOf (stepOf s a b .answer) ≡ 8 → ⊥
+  eight-never e = false≢true (sym (never-8 s a b) ∙ step-exactly s a b 8 .0 e .1 .1 .1 .1)
+
+  -- an accepted step is one that nothing refuses before the voters step
+  early : numberOf (stepOf s a b .answer) ≡ 0 → first (earlyRows s a b) ≡ 0
+  unfolding stepOf
+  early e =
+      let number = own-number (λ (t : TupleStep). numberOf (t .answer)) (first (rowsOf s a b)) (notTaken s) (clauses s a b) (λ k. refl) (none-refused s a b) in
+      let same : first (rowsOf s a b) ≡ first (earlyRows s a b) = last-row s a b ∙ rw (never-8 s a b) (stays (first (earlyRows s a b)) 8) in
+      sym same ∙ sym number ∙ e
+
+  pub step-keeps : numberOf (stepOf s a b .answer) ≡ 0 → (a′ b′ : ℕ) → numberOf (stepOf (stepOf s a b .state) a′ b′ .answer) ≡ 7 → ⊥
+  step-keeps e a′ b′ q = false≢true (sym (sound-left s a b (early e)) ∙ step-exactly (stepOf s a b .state) a′ b′ 7 .0 q .1 .1 .1)
+
+pub fresh-taken :
+    (n need word a b : ℕ) → madeOf n need word .refusal ≡ 0 → outside n a || outside n b ≡ false
+    → numberOf (stepOf (madeOf n need word .state) a b .answer) ≡ 0
+unfolding madeOf
+fresh-taken n need word a b e inside =
+    let number = own-number (λ (m : TupleMade). m .refusal) (first (makeRows (badCount need) n word)) notMade (made n need word) (λ k. refl) refl in
+    let m = make-0 (badCount need) n word .0 (sym number ∙ e) in
+    let g = fresh-sound n need word (m .counted) (m .wide) (m .word-in) in
+    rw (made-fresh n need word m, step-is-clauses n (fresh n need word) a b g inside) (none-refused (fresh n need word) a b)
