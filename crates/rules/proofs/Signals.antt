@@ -69,7 +69,7 @@ module _ (f : ℕ → ℕ) where
   list-length zero = refl
   list-length (suc n) = simp (length-append, list-length n, add-one)
 
-  list-at : (n i : ℕ) → i < n → getD (asList n f) i 0 ≡ f i
+  pub list-at : (n i : ℕ) → i < n → getD (asList n f) i 0 ≡ f i
   unfolding asList
   list-at zero i l = absurd (omega (arith, l))
   list-at (suc n) i l = upTo n i l (λ q. rw q (getD-at (asList n f) (f n) [] 0 n (list-length n))) (λ q. List·getD-append (asList n f) (f n ∷ []) 0 i (rw list-length q) ∙ list-at n i q)

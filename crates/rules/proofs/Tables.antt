@@ -121,9 +121,21 @@ stays r k = go (eqb r 0) refl where
   go true q = sym (eqb-true r 0 q)
   go false q = refl
 
+-- a table and a second one below it
+joined : (rows later : List Row) → numbered rows ≡ true → first (rows ++ later) ≡ (if eqb (first rows) 0 then first later else first rows)
+unfolding first numbered
+joined [] later u = refl
+joined (j when true ∷ rows) later u = let h = ltb-true 0 j (and-both (ltb 0 j) _ u .0) in rw (ne-eqb j 0 (λ e. omega arith))
+joined (j when false ∷ rows) later u = joined rows later (and-both (ltb 0 j) _ u .1)
+
+module _ (rows later : List Row) (u : numbered rows ≡ true) where
+  pub upper : (first rows ≡ 0 → ⊥) → first (rows ++ later) ≡ first rows
+  upper h = joined rows later u ∙ rw (ne-eqb (first rows) 0 h)
+
+  pub lower : first rows ≡ 0 → first (rows ++ later) ≡ first later
+  lower e = joined rows later u ∙ rw e
+
 -- a table with one row more
 pub one-more : (rows : List Row) → numbered rows ≡ true → (k : ℕ) (b : Bool) → first (rows ++ (k when b ∷ [])) ≡ orElse (first rows) k b
-unfolding first numbered
-one-more [] u k b = refl
-one-more (j when true ∷ rows) u k b = let h = ltb-true 0 j (and-both (ltb 0 j) _ u .0) in rw (ne-eqb j 0 (λ e. omega arith))
-one-more (j when false ∷ rows) u k b = one-more rows (and-both (ltb 0 j) _ u .1) k b
+unfolding first
+one-more rows u k b = joined rows (k when b ∷ []) u

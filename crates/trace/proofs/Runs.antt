@@ -20,8 +20,9 @@ use Rattle.trace.proofs.Samples.{smallest}
 use Rattle.rules.proofs.Readings.{Makes, Runs, run-exactly, run-0}
 use Rattle.rules.proofs.Tables.{own-number}
 
-shown : (k s : ℕ) → runSample (answer k (notRun s) Done) ≡ (if eqb k 6 then s else 0)
-shown k s = go (eqb k 0) refl where
+-- the sample number that comes with a number
+pub sample-shown : (k s : ℕ) → runSample (answer k (notRun s) Done) ≡ (if eqb k 6 then s else 0)
+sample-shown k s = go (eqb k 0) refl where
   go : (b : Bool) → eqb k 0 ≡ b → runSample (if b then Done else notRun s k) ≡ (if eqb k 6 then s else 0)
   go true q = let z = eqb-true k 0 q in simp (ne-eqb k 6 (λ e. omega arith))
   go false q = refl
@@ -87,7 +88,7 @@ module _ (miscounted : Bool) (n word : ℕ) (long unequal : Bool) where
     -- 6 comes with the smallest sample, and any other number with 0
     run-sample : runSample answered ≡ (if eqb (runNumber answered) 6 then firstWhere (out n) xs else 0)
     unfolding runAnswer
-    run-sample = rw run-number (shown (first rows) (firstWhere (out n) xs))
+    run-sample = rw run-number (sample-shown (first rows) (firstWhere (out n) xs))
 
     pub six-smallest : runNumber answered ≡ 6 → Smallest (out n) xs (runSample answered)
     six-smallest e = rw (run-sample, e) (smallest (out n) xs (answer-exactly 6 .0 e .1 .1 .1 .1 .1))

@@ -1,0 +1,4 @@
+pub mod Answers
+pub mod Columns
+pub mod Shapes
+pub mod Taken
