@@ -1,0 +1,98 @@
+-- Laws of digits: how many there are, and the two loops that count and write them.
+use mathlib.Core.Path.{_≡_, refl, ap, _∙_}
+use mathlib.Core.Bool.{Bool, true, false}
+use mathlib.Core.List.{List, [], _∷_}
+use Prim.Native.Nat.{ℕ, zero, suc, _+_, _-_, _/_, _%_, _^_, _<_, _≤_}
+use native.Mathlib.Nat.{div-lt-iff-lt-mul, pow-suc}
+use native.Mathlib.Numerals.{add-one}
+use native.Mathlib.Omega.{arith}
+use lib.Dec.{ltb}
+use lib.ListN.{length, set, length-append}
+use borrow.Author.Tests.{ltb-true, ltb-false, lt-ltb, le-ltb}
+use Rattle.rules.specs.Choose.{if_then_else_}
+use Rattle.text.specs.Text.{glyph, digits, placesUpTo, places, decimal, hex8}
+use Rattle.text.specs.Put.{laid}
+use Rattle.text.proofs.Laws.{laid-nothing, laid-last}
+
+pub digits-length : (base k n : ℕ) → length (digits base k n) ≡ k
+unfolding digits
+digits-length base zero n = refl
+digits-length base (suc k) n =
+    length-append (digits base k (n / base)) (glyph (n % base) ∷ [])
+    ∙ add-one (length (digits base k (n / base)))
+    ∙ ap suc (digits-length base k (n / base))
+
+pub decimal-length : (n : ℕ) → length (decimal n) ≡ places n
+decimal-length n = digits-length 10 (places n) n
+
+pub hex-length : (w : ℕ) → length (hex8 w) ≡ 8
+hex-length w = digits-length 16 8 w
+
+-- a tenth of a number below 10 ^ suc k is below 10 ^ k
+pub tenth : (k n : ℕ) → n < 10 ^ suc k → n / 10 < 10 ^ k
+tenth k n h = div-lt-iff-lt-mul {k = 10} (omega arith) .1 (rw (pow-suc 10 k) at h)
+
+-- the two cases of the number of places
+places-one : (k n : ℕ) → n < 10 → placesUpTo k n ≡ 1
+unfolding placesUpTo
+places-one zero n h = refl
+places-one (suc k) n h = rw (lt-ltb n 10 h)
+
+places-more : (k n : ℕ) → 10 ≤ n → placesUpTo (suc k) n ≡ suc (placesUpTo k (n / 10))
+unfolding placesUpTo
+places-more k n h = rw (le-ltb n 10 h)
+
+-- every number has ten places at the most, and one below 10 ^ suc j has no more than suc j
+one-more : (b : Bool) (m k : ℕ) → m ≤ k → (if b then 1 else suc m) ≤ suc k
+one-more true m k h = omega arith
+one-more false m k h = omega arith
+
+most : (k n : ℕ) → placesUpTo k n ≤ suc k
+unfolding placesUpTo
+most zero n = omega arith
+most (suc k) n = one-more (ltb n 10) _ _ (most k (n / 10))
+
+few : (j k n : ℕ) → n < 10 ^ suc j → placesUpTo k n ≤ suc j
+unfolding placesUpTo
+few j zero n h = omega arith
+few zero (suc k) n h = omega (arith, places-one (suc k) n h)
+few (suc j) (suc k) n h = one-more (ltb n 10) _ _ (few j k (n / 10) (tenth (suc j) n h))
+
+pub places-most : (n : ℕ) → places n ≤ 10
+places-most n = most 9 n
+
+pub places-few : (j n : ℕ) → n < 10 ^ suc j → places n ≤ suc j
+places-few j n h = few j 9 n h
+
+-- k places are counted, those of what is left are to come, and there are ten in all at the most
+pub record Counted (n k rest : ℕ) : Type 0 where
+  pub more : ℕ
+  pub counted : k + placesUpTo more rest ≡ places n + 1
+  pub enough : rest < 10 ^ suc more
+  pub most : k + more ≡ 10
+
+pub count-more : {n k rest : ℕ} → 10 ≤ rest → Counted n k rest → Counted n (k + 1) (rest / 10)
+count-more {n} {k} {rest} h c = go (c .more) (c .counted) (c .enough) (c .most) where
+  go : (f : ℕ) → k + placesUpTo f rest ≡ places n + 1 → rest < 10 ^ suc f → k + f ≡ 10 → Counted n (k + 1) (rest / 10)
+  go zero e l q = absurd (omega arith)
+  go (suc f) e l q = record { more = f; counted = omega (arith, places-more f rest h); enough = tenth (suc f) rest l; most = omega arith }
+
+pub count-done : {n k rest : ℕ} → rest < 10 → Counted n k rest → k ≡ places n
+count-done {rest = rest} h c = omega (arith, places-one (c .more) rest h)
+
+-- a digit is stored, and those before it are still to come
+pub store-digit :
+    (base i rest at g : ℕ) (out : List ℕ) → 0 < i → g ≡ glyph (rest % base) → at + i ≤ length out
+    → laid (set out (at + (i - 1)) g) at (digits base (i - 1) (rest / base)) ≡ laid out at (digits base i rest)
+unfolding digits
+store-digit base zero rest at g out h q l = absurd (omega arith)
+store-digit base (suc i) rest at g out h q l =
+    let s = digits base i (rest / base) in
+    let p : suc i - 1 ≡ i = omega arith in
+    let e = digits-length base i (rest / base) in
+    rw (p, ← q) (rw e at (laid-last out at g s (omega arith)))
+
+pub store-done : (base i rest at : ℕ) (out : List ℕ) → i ≤ 0 → laid out at (digits base i rest) ≡ out
+unfolding digits
+store-done base zero rest at out h = laid-nothing out at
+store-done base (suc i) rest at out h = absurd (omega arith)

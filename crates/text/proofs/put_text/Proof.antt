@@ -1,0 +1,17 @@
+-- `text::put_text` meets its contract.
+use mathlib.Core.Path.{sym, _∙_}
+use borrow.Author.Needs.{needs}
+use borrow.Author.Tests.{leb-true}
+use Rattle.text.proofs.Laws.{placed, kept}
+use Rattle.text.proofs.put_text.Statement.{statement}
+use Rattle.text.proofs.put_text.Tie as tie
+
+pub put-text-spec : {M : Type 1} → statement M
+put-text-spec =
+    tie.close
+    (tie.spec
+    (λ _ _. tt)
+    (λ c _. leb-true _ _ (sym (c .before .before .has-room .ensures) ∙ c .before .if1 .taken))
+    (λ c. search needs)
+    (λ c. placed (c .before .before .lay-text .ensures))
+    (λ c. kept (sym (c .before .has-room .ensures) ∙ c .if1 .left)))
