@@ -8,7 +8,7 @@ use native.Mathlib.Numerals.{add-one}
 use native.Mathlib.Omega.{arith}
 use lib.Dec.{ltb}
 use lib.ListN.{length, set, length-append}
-use borrow.Author.Tests.{ltb-true, ltb-false, lt-ltb, le-ltb}
+use borrow.Author.Tests.{lt-ltb, le-ltb}
 use Rattle.rules.specs.Choose.{if_then_else_}
 use Rattle.text.specs.Text.{glyph, digits, placesUpTo, places, decimal, hex8}
 use Rattle.text.specs.Put.{laid}
@@ -42,27 +42,28 @@ places-more : (k n : ℕ) → 10 ≤ n → placesUpTo (suc k) n ≡ suc (placesU
 unfolding placesUpTo
 places-more k n h = rw (le-ltb n 10 h)
 
--- every number has ten places at the most, and one below 10 ^ suc j has no more than suc j
+-- a bound on a tenth's places is one on the number's
 one-more : (b : Bool) (m k : ℕ) → m ≤ k → (if b then 1 else suc m) ≤ suc k
 one-more true m k h = omega arith
 one-more false m k h = omega arith
 
-most : (k n : ℕ) → placesUpTo k n ≤ suc k
+most-up-to : (k n : ℕ) → placesUpTo k n ≤ suc k
 unfolding placesUpTo
-most zero n = omega arith
-most (suc k) n = one-more (ltb n 10) _ _ (most k (n / 10))
+most-up-to zero n = omega arith
+most-up-to (suc k) n = one-more (ltb n 10) _ _ (most-up-to k (n / 10))
 
-few : (j k n : ℕ) → n < 10 ^ suc j → placesUpTo k n ≤ suc j
+few-up-to : (k j n : ℕ) → n < 10 ^ suc j → placesUpTo k n ≤ suc j
 unfolding placesUpTo
-few j zero n h = omega arith
-few zero (suc k) n h = omega (arith, places-one (suc k) n h)
-few (suc j) (suc k) n h = one-more (ltb n 10) _ _ (few j k (n / 10) (tenth (suc j) n h))
+few-up-to zero j n h = omega arith
+few-up-to (suc k) zero n h = omega (arith, places-one (suc k) n h)
+few-up-to (suc k) (suc j) n h = one-more (ltb n 10) _ _ (few-up-to k j (n / 10) (tenth (suc j) n h))
 
+-- ten at the most; two below 100, four below 10,000, and so for every power of ten
 pub places-most : (n : ℕ) → places n ≤ 10
-places-most n = most 9 n
+places-most = most-up-to 9
 
 pub places-few : (j n : ℕ) → n < 10 ^ suc j → places n ≤ suc j
-places-few j n h = few j 9 n h
+places-few = few-up-to 9
 
 -- k places are counted, those of what is left are to come, and there are ten in all at the most
 pub record Counted (n k rest : ℕ) : Type 0 where
@@ -71,14 +72,14 @@ pub record Counted (n k rest : ℕ) : Type 0 where
   pub enough : rest < 10 ^ suc more
   pub most : k + more ≡ 10
 
-pub count-more : {n k rest : ℕ} → 10 ≤ rest → Counted n k rest → Counted n (k + 1) (rest / 10)
-count-more {n} {k} {rest} h c = go (c .more) (c .counted) (c .enough) (c .most) where
+pub count-more : {n k rest : ℕ} → Counted n k rest → 10 ≤ rest → Counted n (k + 1) (rest / 10)
+count-more {n} {k} {rest} c h = go (c .more) (c .counted) (c .enough) (c .most) where
   go : (f : ℕ) → k + placesUpTo f rest ≡ places n + 1 → rest < 10 ^ suc f → k + f ≡ 10 → Counted n (k + 1) (rest / 10)
   go zero e l q = absurd (omega arith)
   go (suc f) e l q = record { more = f; counted = omega (arith, places-more f rest h); enough = tenth (suc f) rest l; most = omega arith }
 
-pub count-done : {n k rest : ℕ} → rest < 10 → Counted n k rest → k ≡ places n
-count-done {rest = rest} h c = omega (arith, places-one (c .more) rest h)
+pub count-done : {n k rest : ℕ} → Counted n k rest → rest < 10 → k ≡ places n
+count-done {rest = rest} c h = omega (arith, places-one (c .more) rest h)
 
 -- a digit is stored, and those before it are still to come
 pub store-digit :

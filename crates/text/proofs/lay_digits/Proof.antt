@@ -22,7 +22,7 @@ loop-again : tie.Need-loop-again Inv-loop μ-loop
 loop-again c =
     let l = c .before .before .loop in
     let a = c .before .before .before .before .args in
-    (omega arith, rw length-set (l .inv .1), store-digit (a .base) (l .i) (l .rest) (a .at) (c .glyph .result) (l .out) (c .before .loop-test .taken) (c .glyph .ensures) (omega arith) ∙ l .inv .2)
+    (omega arith, rw length-set (l .inv .1), store-digit (a .base) (l .i) (l .rest) (a .at) (c .glyph .result) (l .out) (omega arith) (c .glyph .ensures) (omega arith) ∙ l .inv .2)
 
 returns : tie.Need-returns Inv-loop μ-loop
 returns c =
@@ -31,7 +31,7 @@ returns c =
     record {
       next = ap (λ (n : ℕ). a .at + n) (sym (digits-length (a .base) (a .k) (a .n)));
       room = omega arith;
-      buffer = sym (store-done (a .base) (l .i) (l .rest) (a .at) (l .out) (c .loop-test .left)) ∙ l .inv .2;
+      buffer = sym (store-done (a .base) (l .i) (l .rest) (a .at) (l .out) (omega arith)) ∙ l .inv .2;
     }
 
 pub lay-digits-spec : {M : Type 1} → statement M

@@ -23,15 +23,15 @@ loop-again c =
     let a = c .before .before .before .args in
     let text = a .text .now in
     let first = laid-first (l .out) (a .at + l .i) (getD text (l .i) 0) (drop (suc (l .i)) text) (omega arith) in
-    let left = rw (drop-cons text (l .i) 0 (c .before .loop-test .taken)) at (l .inv .2) in
+    let left = rw (drop-cons text (l .i) 0 (omega arith)) at (l .inv .2) in
     (omega arith, rw length-set (l .inv .1), rw (← add-assoc (a .at) (l .i) 1, add-one (l .i)) (first ∙ left))
 
 returns : tie.Need-returns Inv-loop μ-loop
 returns c =
     let l = c .before .loop in
     let a = c .before .before .args in
-    let none = drop-of-length-le (a .text .now) (c .loop-test .left) in
-    record { next = ap (λ (n : ℕ). a .at + n) (omega arith); room = omega arith; buffer = sym (laid-nothing (l .out) (a .at + l .i)) ∙ (rw none at (l .inv .2)) }
+    let none = drop-of-length-le (a .text .now) {i = l .i} (omega arith) in
+    record { next = omega arith; room = omega arith; buffer = sym (laid-nothing (l .out) (a .at + l .i)) ∙ (rw none at (l .inv .2)) }
 
 pub lay-text-spec : {M : Type 1} → statement M
 lay-text-spec =

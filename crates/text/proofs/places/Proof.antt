@@ -20,5 +20,5 @@ places-spec =
     (λ c. record { more = 9; counted = omega arith; enough = omega arith; most = refl })
     (λ c. omega arith)
     (λ c. omega arith)
-    (λ c. count-more (c .loop-test .taken) (c .before .loop .inv))
-    (λ c. count-done (c .loop-test .left) (c .before .loop .inv)))
+    (λ c. count-more (c .before .loop .inv) (omega arith))
+    (λ c. count-done (c .before .loop .inv) (omega arith)))

@@ -10,7 +10,7 @@ use Rattle.text.proofs.put_byte.Statement.{statement}
 use Rattle.text.proofs.put_byte.Tie as tie
 
 room : (c : tie.Then1) → let a = c .before .before .before .args in a .at + 1 ≤ length (a .out .now)
-room c = leb-true _ _ (sym (c .before .has-room .ensures) ∙ c .if1 .taken)
+room c = let e = sym (c .before .has-room .ensures) ∙ c .if1 .taken in omega (arith, leb-true)
 
 returns : tie.Need-returns
 returns c = let h = room c in placed (record { next = refl; room = h; buffer = laid-byte _ _ _ (omega arith) })
