@@ -84,8 +84,9 @@ module _ {old : List ℕ} {at : ℕ} {text : List ℕ} where
       let e = rw (le-leb _ _ h) at (p .next) in
       record { next = e; room = omega arith; buffer = rw (le-leb _ _ h) at (p .buffer) }
 
--- THE LAW OF PIECES: one text, and another from where the call said, are the two in a row
-pub then : {old : List ℕ} {at : ℕ} {s : List ℕ} {r : ℕ} {mid t : List ℕ} {r′ : ℕ} {new : List ℕ} → Writes old at s r mid → Writes mid r t r′ new → Writes old at (s ++ t) r′ new
+-- THE LAW OF PIECES: one text, and another from the place that the first call answered, are the two in a row
+pub then : {old : List ℕ} {at : ℕ} {s : List ℕ} {r : ℕ} {mid t : List ℕ} {r′ : ℕ} {new : List ℕ}
+    → Writes old at s r mid → Writes mid r t r′ new → Writes old at (s ++ t) r′ new
 then {old} {at} {s} {r} {mid} {t} {r′} {new} u v h =
     let l = length-append s t in
     let k : at + length s ≤ length old = omega arith in

@@ -1,4 +1,4 @@
--- Text as the codes of its bytes: what is quoted, and numbers in digits. All of it is ASCII.
+-- Text as the codes of its bytes, all of them ASCII: what is quoted, and numbers in digits.
 use Prim.Native.Nat.{ℕ, zero, suc, _+_, _/_, _%_}
 use Prim.Native.Char.{code}
 use Prim.Native.String.{String, [] as []ˢ, _∷_ as _∷ˢ_}
@@ -20,12 +20,12 @@ unfoldable pub digits : ℕ → ℕ → ℕ → List ℕ
 digits base zero n = []
 digits base (suc k) n = digits base k (n / base) ++ (glyph (n % base) ∷ [])
 
--- how many decimal digits n has: one below ten, else one more than a tenth of it; counted up to k more
+-- how many decimal digits n has: one below ten, and one more than a tenth of it from ten on; k is the most that are added
 unfoldable pub placesUpTo : ℕ → ℕ → ℕ
 placesUpTo zero n = 1
 placesUpTo (suc k) n = if ltb n 10 then 1 else suc (placesUpTo k (n / 10))
 
--- a u32 has ten at the most
+-- those of a u32: it has ten at the most
 abbrev pub places : ℕ → ℕ
 places n = placesUpTo 9 n
 

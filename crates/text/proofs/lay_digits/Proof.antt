@@ -22,7 +22,8 @@ loop-again : tie.Need-loop-again Inv-loop μ-loop
 loop-again c =
     let l = c .before .before .loop in
     let a = c .before .before .before .before .args in
-    (omega arith, rw length-set (l .inv .1), store-digit (a .base) (l .i) (l .rest) (a .at) (c .glyph .result) (l .out) (omega arith) (c .glyph .ensures) (omega arith) ∙ l .inv .2)
+    let stored = store-digit (a .base) (l .i) (l .rest) (a .at) (c .glyph .result) (l .out) (omega arith) (c .glyph .ensures) (omega arith) in
+    (omega arith, rw length-set (l .inv .1), stored ∙ l .inv .2)
 
 returns : tie.Need-returns Inv-loop μ-loop
 returns c =
