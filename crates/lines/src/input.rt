@@ -117,12 +117,6 @@ pub fn list(into: &mut [u32]) -> usize
     at
 }
 
-fn least(a: usize, b: usize) -> usize
-    ensures { λ r. ⌜ (r ≤ a) × (r ≤ b) ⌝ }
-{
-    if a < b { a } else { b }
-}
-
 // LENT: the length of a slice and what each place holds.
 pub fn lent(into: &mut [u32]) -> usize
     ensures { λ r. ⌜ r ≤ length (now (into .entry)) ⌝ }
@@ -132,16 +126,50 @@ pub fn lent(into: &mut [u32]) -> usize
     put_run(into, 0, fill, len)
 }
 
-// The same for a slice of bytes.
+// The same for bytes; a byte that is given as a greater number is cut.
+fn put_bytes(into: &mut [u8], at: usize, value: u32, times: u32) -> usize
+    requires { ⌜ at ≤ length (now into) ⌝ }
+    ensures { λ r. ⌜ (at ≤ r) × (r ≤ length (now (into .entry))) ⌝ }
+{
+    let byte = (value % 256) as u8;
+    let mut next = at;
+    let mut left = times;
+    while left > 0 {
+        if next >= into.len() {
+            return next;
+        }
+        into[next] = byte;
+        next += 1;
+        left -= 1;
+    }
+    next
+}
+
+pub fn byte_list(into: &mut [u8]) -> usize
+    ensures { λ r. ⌜ r ≤ length (now (into .entry)) ⌝ }
+{
+    let count = number();
+    let mut at = 0;
+    let mut tokens = 0;
+    while tokens < count {
+        if at >= count as usize {
+            return at;
+        }
+        let item = read_token();
+        let mut times = 1;
+        if item.after == 42 {
+            times = number();
+        }
+        at = put_bytes(into, at, narrow(item.value), times);
+        tokens += 1;
+    }
+    at
+}
+
 pub fn lent_bytes(into: &mut [u8]) -> usize
     ensures { λ r. ⌜ r ≤ length (now (into .entry)) ⌝ }
 {
-    let len = least(number() as usize, into.len());
-    let fill = (number() % 256) as u8;
-    let mut at = 0;
-    while at < len {
-        into[at] = fill;
-        at += 1;
-    }
-    len
+    let len = number();
+    let fill = number();
+    put_bytes(into, 0, fill, len)
 }

@@ -16,7 +16,6 @@ use Rattle.trace.specs.declared.RunAnswer.the-variants.{Done}
 use Rattle.trace.specs.Samples.{firstWhere, somewhere, Smallest}
 use Rattle.trace.proofs.Runs.{sample-shown}
 use Rattle.trace.proofs.Samples.{smallest}
-use Rattle.recording.specs.declared.RecordingRead.{RecordingRead}
 use Rattle.recording.specs.Recording.{headerOf, outsideAt, numbers, shapeRows, rowsOf, refusedAt, readOf}
 
 module _ (lent : Bool) (s : List ℕ) where

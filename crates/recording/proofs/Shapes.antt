@@ -13,7 +13,6 @@ use Rattle.rules.specs.Signals.{someBelow}
 use Rattle.rules.specs.Table.{first, numbered}
 use Rattle.rules.proofs.Ranges.{same}
 use Rattle.rules.proofs.Tables.{exactly, or-neither, upper, lower}
-use Rattle.recording.specs.declared.Header.{Header}
 use Rattle.recording.specs.Recording.{headerOf, columnAt, badTag, badUnits, badHead, badOffset, badLayout, headRows, layoutRows, shapeRows, Laid}
 
 pub one-two-four : (units : ℕ) → badUnits units ≡ false → (units ≡ 1) ⊎ ((units ≡ 2) ⊎ (units ≡ 4))

@@ -7,7 +7,7 @@ ghost use lib.ListN.{length, drop};
 ghost use Rattle.rules.specs.Table.{first};
 ghost use Rattle.rules.specs.Signals.{asList, someBelow};
 ghost use Rattle.trace.specs.Samples.{firstWhere};
-ghost use Rattle.recording.specs.Recording.{field, headerOf, columnAt, offsetOf, sampleAt, badTag, badUnits, badOffset, badLayout, outsideAt, numbers, headRows, layoutRows, shapeRows, refusedAt, readOf, held, Laid, Read};
+ghost use Rattle.recording.specs.Recording.{field, headerOf, columnAt, offsetOf, sampleAt, badTag, badUnits, badOffset, outsideAt, numbers, headRows, layoutRows, shapeRows, refusedAt, readOf, held, Laid, Read};
 
 // What a recording's header says.
 pub struct Header {

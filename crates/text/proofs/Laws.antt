@@ -1,5 +1,5 @@
 -- Laws of text in a buffer: what is laid after another text, or in front of it; the two ways a call places a text; and THE law
--- of pieces, `then`.
+-- of pieces, `and-then`.
 use mathlib.Core.Path.{_≡_, sym, ap, _∙_}
 use mathlib.Core.List.{List, [], _∷_, _++_, append-assoc, append-nil}
 use mathlib.Core.Bool.{false}
@@ -85,9 +85,9 @@ module _ {old : List ℕ} {at : ℕ} {text : List ℕ} where
       record { next = e; room = omega arith; buffer = rw (le-leb _ _ h) at (p .buffer) }
 
 -- THE LAW OF PIECES: one text, and another from the place that the first call answered, are the two in a row
-pub then : {old : List ℕ} {at : ℕ} {s : List ℕ} {r : ℕ} {mid t : List ℕ} {r′ : ℕ} {new : List ℕ}
+pub and-then : {old : List ℕ} {at : ℕ} {s : List ℕ} {r : ℕ} {mid t : List ℕ} {r′ : ℕ} {new : List ℕ}
     → Writes old at s r mid → Writes mid r t r′ new → Writes old at (s ++ t) r′ new
-then {old} {at} {s} {r} {mid} {t} {r′} {new} u v h =
+and-then {old} {at} {s} {r} {mid} {t} {r′} {new} u v h =
     let l = length-append s t in
     let k : at + length s ≤ length old = omega arith in
     let p = u k in

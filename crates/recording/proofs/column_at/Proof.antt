@@ -1,6 +1,5 @@
 -- `recording::column_at` meets its contract: no column begins beyond 41,004.
 use native.Mathlib.Omega.{arith}
-use Prim.Native.Nat.{_*_, _≤_}
 use Rattle.recording.proofs.Columns.{bounded}
 use borrow.Author.Needs.{needs}
 use Rattle.recording.proofs.column_at.Statement.{statement}

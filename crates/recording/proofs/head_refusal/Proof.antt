@@ -1,7 +1,6 @@
 -- `recording::head_refusal` meets its contract: its lines are the rows, and the tag is looked at where there are bytes enough.
 use mathlib.Core.Path.{refl}
 use borrow.Author.Needs.{needs}
-use borrow.Author.Tests.{lt-ltb, le-ltb}
 use Rattle.rules.specs.Table.{first, through, numbered}
 use Rattle.rules.proofs.Tables.{by-rows}
 use Rattle.recording.proofs.head_refusal.Statement.{statement}

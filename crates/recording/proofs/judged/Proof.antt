@@ -1,7 +1,7 @@
 -- `recording::judged` meets its contract: a refusal before the samples, the first sample outside the width, or the header.
 use mathlib.Core.Path.{_≡_, sym, _∙_}
 use Rattle.rules.specs.Table.{first}
-use Rattle.recording.specs.Recording.{headerOf, shapeRows, Laid}
+use Rattle.recording.specs.Recording.{shapeRows}
 use Rattle.recording.proofs.Answers.{refused-early, sample-refused, accepted}
 use Rattle.recording.proofs.Shapes.{Shaped, shaped}
 use Rattle.recording.proofs.judged.Statement.{statement}

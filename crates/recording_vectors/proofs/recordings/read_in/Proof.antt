@@ -1,0 +1,9 @@
+-- `recordings::read_in` lends as many places as each slice has at most.
+use lib.ListN.{length-take}
+use native.Mathlib.Omega.{arith}
+use borrow.Author.Needs.{needs}
+use Rattle.recording_vectors.proofs.recordings.read_in.Statement.{statement}
+use Rattle.recording_vectors.proofs.recordings.read_in.Tie as tie
+
+pub read-in-spec : {M : Type 1} → statement M
+read-in-spec = tie.close (tie.spec (λ _ _. tt) (λ _ _. tt) (λ _ _. tt) (λ _ _. tt) (λ _ _. tt) (λ _ _. tt) (λ c. search needs) (λ c. simp length-take (omega arith)) (λ c. search needs) (λ c. simp length-take (omega arith)) (λ c. search needs) (λ c. simp length-take (omega arith)) (λ c. search needs) (λ c. simp length-take (omega arith)) (λ c. search needs) (λ c. simp length-take (omega arith)) (λ c. search needs) (λ c. simp length-take (omega arith)) (λ _ _. tt) (λ c. search needs) (λ c. search needs) (λ c. search needs) (λ c. search needs) (λ c. search needs) (λ c. search needs) (λ c. search needs))
