@@ -5,16 +5,24 @@ use mathlib.Core.Bool.{Bool, false, _||_}
 use Prim.Native.Nat.{ℕ, _≤_, min}
 use native.Mathlib.Omega.{arith}
 use lib.ListN.{length}
-use borrow.Author.Tests.{ltb-false}
+use borrow.Author.Tests.{ltb-false, le-ltb}
 use Rattle.rules.specs.Limits.{tooLong, differ, outside}
 use Rattle.rules.proofs.Ranges.{same}
 use Rattle.rules.proofs.Readings.{run-0}
 use Rattle.rules.proofs.Tables.{or-neither}
-use Rattle.trace.specs.Samples.{firstWhere, outsidePair, outsideFour}
+use Rattle.trace.specs.Samples.{firstWhere, somewhere, outsidePair, outsideFour}
 use Rattle.trace.specs.Answers.{sampledOf, pairAnswer, fourAnswer}
 use Rattle.trace.proofs.Columns.{zip-length, four-length}
 use Rattle.trace.proofs.Runs.{early, sampled}
-use Rattle.trace.proofs.Samples.{either}
+use Rattle.trace.proofs.Samples.{all-passed, either}
+
+-- where neither column has a marked sample, the two together have none
+pub neither :
+    {X Y : Type 0} (p : X → Bool) (q : Y → Bool) (xs : List X) (ys : List Y) → length xs ≡ length ys
+    → somewhere p xs ≡ false → somewhere q ys ≡ false → somewhere (λ (z : X × Y). p (z .0) || q (z .1)) (zip xs ys) ≡ false
+neither p q xs ys e f g =
+    let passed : length xs ≤ min (firstWhere p xs) (firstWhere q ys) = omega (arith, all-passed p xs f, all-passed q ys g) in
+    rw (either p q xs ys e, zip-length xs ys e) (le-ltb _ _ passed)
 
 module _ (n : ℕ) (a b : List ℕ) where
   abbrev pub smallest : ℕ

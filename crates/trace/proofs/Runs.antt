@@ -85,6 +85,10 @@ module _ (miscounted : Bool) (n word : ℕ) (long unequal : Bool) where
     pub answer-done : answered ≡ Done → Runs miscounted n word long unequal (somewhere (out n) xs)
     answer-done e = run-0 miscounted n word long unequal (somewhere (out n) xs) .0 (sym run-number ∙ ap runNumber e)
 
+    pub done-when : Runs miscounted n word long unequal (somewhere (out n) xs) → answered ≡ Done
+    unfolding runAnswer
+    done-when r = rw (run-0 miscounted n word long unequal (somewhere (out n) xs) .1 r)
+
     -- 6 comes with the smallest sample, and any other number with 0
     run-sample : runSample answered ≡ (if eqb (runNumber answered) 6 then firstWhere (out n) xs else 0)
     unfolding runAnswer

@@ -70,6 +70,12 @@ module _ {X : Type 0} (test : X → Bool) where
   pub nowhere : (xs : List X) (d : X) → somewhere test xs ≡ false → (i : ℕ) → i < length xs → test (getD xs i d) ≡ false
   nowhere xs d e i h = none-before xs d i (omega (arith, ltb-false (firstWhere test xs) (length xs) e))
 
+  pub nowhere-if : (xs : List X) (d : X) → ((i : ℕ) → i < length xs → test (getD xs i d) ≡ false) → somewhere test xs ≡ false
+  nowhere-if xs d h = go (somewhere test xs) refl where
+    go : (b : Bool) → somewhere test xs ≡ b → b ≡ false
+    go false e = refl
+    go true e = absurd (false≢true (sym (h (firstWhere test xs) (ltb-true _ _ e)) ∙ marked xs d e))
+
   -- where none is marked, the number found is that of all samples
   at-most : (xs : List X) → firstWhere test xs ≤ length xs
   unfolding firstWhere

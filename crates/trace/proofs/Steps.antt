@@ -35,6 +35,12 @@ module _ {S X T : Type 0} (core step : S → X → T) (next : T → S) (Good : S
       alike (λ (x y : X). Fine x × (x ≡ y)) (λ s x y g like. rw (← like .1) (same s x g (like .0))) (λ s x y g like. keeps s x g (like .0))
       d s xs xs g refl (λ i h. (fine i h, refl))
 
+-- a run has a step for each sample
+pub trace-length : {S X T : Type 0} (step : S → X → T) (next : T → S) (s : S) (xs : List X) → length (trace step next s xs) ≡ length xs
+unfolding trace
+trace-length step next s [] = refl
+trace-length step next s (x ∷ xs) = ap suc (trace-length step next (next (step s x)) xs)
+
 -- a run goes on from the state that its first part left
 pub trace-append :
     {S X T : Type 0} (step : S → X → T) (next : T → S) (s : S) (xs ys : List X)

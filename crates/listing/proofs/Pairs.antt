@@ -1,0 +1,60 @@
+-- The pair that a reserve vote's run voted on is told from its marks: an alarm hands over, and nothing hands back.
+use mathlib.Core.Path.{_≡_, refl, ap}
+use mathlib.Core.Bool.{Bool, true, false}
+use mathlib.Core.List.{List, [], _∷_, map}
+use Prim.Native.Nat.{ℕ}
+use lib.Dec.{eqb}
+use Rattle.rules.specs.Choose.{if_then_else_}
+use Rattle.trace.specs.Trace.{trace}
+use Rattle.vote.specs.Answers.{markOf}
+use Rattle.vote.specs.Vote as vote
+use Rattle.vote.specs.declared.VoteAnswer.{VoteAnswer}
+use Rattle.vote.specs.declared.VoteAnswer.the-variants.{Agreed, Held, Alarm, Refused}
+use Rattle.reserve.specs.Reserve.{fresh, phaseAfter, inPhase, clauses}
+use Rattle.reserve.specs.Run.{Sample, stepped, leaves, steps, shownMark}
+use Rattle.reserve.specs.declared.Phase.{Phase}
+use Rattle.reserve.specs.declared.Phase.the-variants.{Primary, TakingOver, Reserve as Reserved}
+use Rattle.reserve.specs.declared.Reserve.{Reserve}
+use Rattle.listing.specs.Listing.{shownPair}
+use Rattle.listing.specs.Runnable.{told, toldPair, nextPair, pairsOf}
+
+-- the pair in force
+abbrev inForce : Phase → ℕ
+inForce Primary = 1
+inForce TakingOver = 2
+inForce Reserved = 2
+
+handed : (x : VoteAnswer) → inForce (phaseAfter x) ≡ (if eqb (markOf x) 2 then 2 else 1)
+handed (Agreed w) = refl
+handed (Held w) = refl
+handed (Alarm w) = refl
+handed (Refused k) = refl
+
+module _ (s : Reserve) (x : Sample) where
+  pair-voted : shownPair (stepped s x) ≡ inForce (s .phase)
+  unfolding clauses
+  pair-voted = go (s .phase) where
+    go : (p : Phase) → shownPair (inPhase p (s .vote) (x .0 .0) (x .0 .1) (x .1 .0) (x .1 .1)) ≡ inForce p
+    go Primary = refl
+    go TakingOver = refl
+    go Reserved = refl
+
+  pair-next : inForce (leaves (stepped s x) .phase) ≡ nextPair (told (inForce (s .phase)) (shownMark (stepped s x)))
+  unfolding clauses
+  pair-next = go (s .phase) where
+    two : (b : Bool) → _≡_ {A = ℕ} 2 (if b then 2 else 2)
+    two true = refl
+    two false = refl
+
+    go : (p : Phase) → let t = inPhase p (s .vote) (x .0 .0) (x .0 .1) (x .1 .0) (x .1 .1) in inForce (leaves t .phase) ≡ nextPair (told (inForce p) (shownMark t))
+    go Primary = handed (vote.clauses (s .vote) (x .0 .0) (x .0 .1) false .answer)
+    go TakingOver = two (eqb (markOf (vote.clauses (s .vote) (x .1 .0) (x .1 .1) true .answer)) 2)
+    go Reserved = two (eqb (markOf (vote.clauses (s .vote) (x .1 .0) (x .1 .1) false .answer)) 2)
+
+told-from : (s : Reserve) (xs : List Sample) → map shownPair (steps s xs) ≡ map toldPair (trace told nextPair (inForce (s .phase)) (map shownMark (steps s xs)))
+unfolding trace
+told-from s [] = refl
+told-from s (x ∷ xs) = rw (pair-voted s x, ← pair-next s x) (ap (λ (l : List ℕ). inForce (s .phase) ∷ l) (told-from (leaves (stepped s x)) xs))
+
+pub pairs-told : (n need word : ℕ) (xs : List Sample) → map shownPair (steps (fresh n need word) xs) ≡ pairsOf (map shownMark (steps (fresh n need word) xs))
+pairs-told n need word = told-from (fresh n need word)

@@ -1,0 +1,51 @@
+-- What the parts of the listing hand to each other: columns that a run accepts, and the pairs voted on, told from a run's marks.
+use Prim.Native.Nat.{ℕ, _≤_}
+use mathlib.Core.Path.{_≡_}
+use mathlib.Core.Bool.{false}
+use mathlib.Core.List.{List, map}
+use mathlib.Core.Logic.{_⊎_}
+use lib.Dec.{eqb}
+use lib.ListN.{length}
+use Rattle.rules.specs.Choose.{if_then_else_}
+use Rattle.rules.specs.Limits.{badCount, badWidth, outside}
+use Rattle.trace.specs.Samples.{somewhere}
+use Rattle.trace.specs.Trace.{trace}
+use Rattle.recording.specs.declared.Header.{Header}
+
+-- units 1 and 2 are voted on up to the first alarm, that sample included, and units 3 and 4 after it: the pair, and the next one
+abbrev pub told : ℕ → ℕ → ℕ × ℕ
+told pair mark = (pair, if eqb mark 2 then 2 else pair)
+
+abbrev pub toldPair : ℕ × ℕ → ℕ
+toldPair t = t .0
+
+abbrev pub nextPair : ℕ × ℕ → ℕ
+nextPair t = t .1
+
+abbrev pub pairsOf : List ℕ → List ℕ
+pairsOf marks = map toldPair (trace told nextPair 1 marks)
+
+-- a column that a run takes: a word for each sample, all inside the width
+pub record Column (h : Header) (xs : List ℕ) : Type 0 where
+  pub whole : length xs ≡ h .samples
+  pub inside : somewhere (outside (h .n)) xs ≡ false
+
+pub record Runnable (h : Header) : Type 0 where
+  pub few : h .samples ≤ 2048
+  pub counted : badCount (h .need) ≡ false
+  pub wide : badWidth (h .n) ≡ false
+  pub word-in : outside (h .n) (h .word) ≡ false
+
+-- the columns of the units that are present
+pub record Units (h : Header) (one two three four : List ℕ) : Type 0 where
+  pub known : (h .units ≡ 1) ⊎ ((h .units ≡ 2) ⊎ (h .units ≡ 4))
+  pub first : Column h one
+  pub second : 2 ≤ h .units → Column h two
+  pub third : 4 ≤ h .units → Column h three
+  pub fourth : 4 ≤ h .units → Column h four
+
+-- a place for each sample
+pub record Room (h : Header) (words marks lasts : List ℕ) : Type 0 where
+  pub for-words : length words ≡ h .samples
+  pub for-marks : length marks ≡ h .samples
+  pub for-lasts : length lasts ≡ h .samples

@@ -1,0 +1,232 @@
+// The listing of a recording (document 01, "The recording"): bytes in, text into a lent buffer.
+mod sheet;
+
+use recording::Header;
+use trace::RunAnswer;
+ghost use mathlib.Core.Path.{_≡_};
+ghost use Prim.Native.Nat.{_≤_};
+ghost use lib.ListN.{length, take};
+ghost use Rattle.text.specs.Put.{Writes};
+ghost use Rattle.listing.specs.Listing.{confirmText, pairText, reserveText, unitsText, longest, Lists};
+ghost use Rattle.listing.specs.Runnable.{told, nextPair, pairsOf, Column, Runnable, Room, Units};
+
+// What a recording's units take.
+enum Kind {
+    Confirm,
+    Pair,
+    Reserve,
+}
+
+// How long the text is that was written: a listing, or a refused recording's line. Nothing is written into a buffer that could not
+// take the longest text.
+pub enum ListAnswer {
+    Listed(usize),
+    Refused(usize),
+    TooShort,
+}
+
+// The bytes of the longest text: a buffer has to have as many.
+pub struct Listing {}
+
+impl Listing {
+    pub const LONGEST: usize = 50111;
+}
+
+// One unit is confirmed; the last field is the count after the step.
+fn list_confirm(
+    h: Header,
+    one: &[u32],
+    words: &mut [u32],
+    marks: &mut [u8],
+    counts: &mut [u32],
+    out: &mut [u8],
+) -> usize
+    requires { ⌜ Runnable h ⌝ }
+    requires { ⌜ Column h (now one) ⌝ }
+    requires { ⌜ Room h (now words) (now marks) (now counts) ⌝ }
+    ensures { λ r. ⌜ Writes (now (out .entry)) 0 (confirmText (h .n) (h .need) (h .word) (now (one .entry))) r (now (out .exit)) ⌝ }
+{
+    confirm::run(h.n, h.need, h.word, one, words, marks, counts);
+    sheet::put_listing(out, Kind::Confirm, h.n, h.need, words, marks, counts)
+}
+
+// Two take the tuple vote; the last field is the alarm mask.
+fn list_pair(
+    h: Header,
+    one: &[u32],
+    two: &[u32],
+    words: &mut [u32],
+    marks: &mut [u8],
+    masks: &mut [u32],
+    out: &mut [u8],
+) -> usize
+    requires { ⌜ Runnable h ⌝ }
+    requires { ⌜ Column h (now one) ⌝ }
+    requires { ⌜ Column h (now two) ⌝ }
+    requires { ⌜ Room h (now words) (now marks) (now masks) ⌝ }
+    ensures { λ r. ⌜ Writes (now (out .entry)) 0 (pairText (h .n) (h .need) (h .word) (now (one .entry)) (now (two .entry))) r (now (out .exit)) ⌝ }
+{
+    tuple::run(h.n, h.need, h.word, one, two, words, masks, marks);
+    sheet::put_listing(out, Kind::Pair, h.n, h.need, words, marks, masks)
+}
+
+// An alarm hands over for ever.
+fn next_pair(pair: u32, mark: u8) -> u32
+    ensures { λ r. ⌜ r ≡ nextPair (told pair mark) ⌝ }
+{
+    if mark == 2 { 2 } else { pair }
+}
+
+// The pair that was voted on at each sample, from the marks of a reserve vote's run.
+fn tell_pairs(marks: &[u8], pairs: &mut [u32])
+    requires { ⌜ length (now marks) ≡ length (now pairs) ⌝ }
+    ensures { λ _. ⌜ now (pairs .exit) ≡ pairsOf (now (marks .entry)) ⌝ }
+{
+    let mut pair = 1;
+    let mut i = 0;
+    while i < marks.len() {
+        pairs[i] = pair;
+        pair = next_pair(pair, marks[i]);
+        i += 1;
+    }
+}
+
+// Four take the reserve vote; the last field is the pair that was voted on.
+fn list_reserve(
+    h: Header,
+    one: &[u32],
+    two: &[u32],
+    three: &[u32],
+    four: &[u32],
+    words: &mut [u32],
+    marks: &mut [u8],
+    pairs: &mut [u32],
+    out: &mut [u8],
+) -> usize
+    requires { ⌜ Runnable h ⌝ }
+    requires { ⌜ (Column h (now one)) × (Column h (now two)) × (Column h (now three)) × (Column h (now four)) ⌝ }
+    requires { ⌜ Room h (now words) (now marks) (now pairs) ⌝ }
+    ensures { λ r. ⌜ Writes (now (out .entry)) 0 (reserveText (h .n) (h .need) (h .word)
+        (now (one .entry)) (now (two .entry)) (now (three .entry)) (now (four .entry))) r (now (out .exit)) ⌝ }
+{
+    reserve::run(h.n, h.need, h.word, one, two, three, four, words, marks);
+    tell_pairs(marks, pairs);
+    sheet::put_listing(out, Kind::Reserve, h.n, h.need, words, marks, pairs)
+}
+
+// By the number of units, over columns that have a place for each sample.
+fn list_units(
+    h: Header,
+    one: &[u32],
+    two: &[u32],
+    three: &[u32],
+    four: &[u32],
+    words: &mut [u32],
+    marks: &mut [u8],
+    lasts: &mut [u32],
+    out: &mut [u8],
+) -> usize
+    requires { ⌜ Runnable h ⌝ }
+    requires { ⌜ Units h (now one) (now two) (now three) (now four) ⌝ }
+    requires { ⌜ Room h (now words) (now marks) (now lasts) ⌝ }
+    ensures { λ r. ⌜ Writes (now (out .entry)) 0 (unitsText h (now (one .entry)) (now (two .entry)) (now (three .entry)) (now (four .entry)))
+        r (now (out .exit)) ⌝ }
+{
+    if h.units == 1 {
+        return list_confirm(h, one, words, marks, lasts, out);
+    }
+    if h.units == 2 {
+        return list_pair(h, one, two, words, marks, lasts, out);
+    }
+    list_reserve(h, one, two, three, four, words, marks, lasts, out)
+}
+
+fn places() -> [u32; 2048]
+    ensures { λ r. ⌜ 2048 ≡ length r ⌝ }
+{
+    [0; 2048]
+}
+
+fn byte_places() -> [u8; 2048]
+    ensures { λ r. ⌜ 2048 ≡ length r ⌝ }
+{
+    [0; 2048]
+}
+
+// The same over the reader's slices, which have a place for each sample of the longest trace.
+fn list_slices(
+    h: Header,
+    one: &[u32],
+    two: &[u32],
+    three: &[u32],
+    four: &[u32],
+    out: &mut [u8],
+) -> usize
+    requires { ⌜ Runnable h ⌝ }
+    requires { ⌜ (length (now one) ≡ 2048) × (length (now two) ≡ 2048) × (length (now three) ≡ 2048) × (length (now four) ≡ 2048) ⌝ }
+    requires { ⌜ Units h (take (h .samples) (now one)) (take (h .samples) (now two)) (take (h .samples) (now three)) (take (h .samples) (now four)) ⌝ }
+    ensures { λ r. ⌜ Writes (now (out .entry)) 0 (unitsText h (take (h .samples) (now (one .entry))) (take (h .samples) (now (two .entry)))
+        (take (h .samples) (now (three .entry))) (take (h .samples) (now (four .entry)))) r (now (out .exit)) ⌝ }
+{
+    let mut words = places();
+    let mut marks = byte_places();
+    let mut lasts = places();
+    let k = h.samples as usize;
+    list_units(
+        h,
+        &one[..k],
+        &two[..k],
+        &three[..k],
+        &four[..k],
+        &mut words[..k],
+        &mut marks[..k],
+        &mut lasts[..k],
+        out,
+    )
+}
+
+// The text of a recording, by way of the reader's five slices.
+fn list_read(
+    bytes: &[u8],
+    times: &mut [u32],
+    one: &mut [u32],
+    two: &mut [u32],
+    three: &mut [u32],
+    four: &mut [u32],
+    out: &mut [u8],
+) -> ListAnswer
+    requires { ⌜ (length (now times) ≡ 2048) × (length (now one) ≡ 2048) × (length (now two) ≡ 2048) × (length (now three) ≡ 2048) × (length (now four) ≡ 2048) ⌝ }
+    requires { ⌜ longest ≤ length (now out) ⌝ }
+    ensures { λ r. ⌜ Lists (now (bytes .entry)) (now (out .entry)) r (now (out .exit)) ⌝ }
+{
+    let read = recording::read(bytes, times, one, two, three, four);
+    let answer = read.answer;
+    let h = read.header;
+    let RunAnswer::Done = answer else {
+        return ListAnswer::Refused(sheet::put_refused(out, answer.number(), answer.sample()));
+    };
+    ListAnswer::Listed(list_slices(h, one, two, three, four, out))
+}
+
+// Lists a recording's bytes at the start of a lent buffer.
+pub fn list(bytes: &[u8], out: &mut [u8]) -> ListAnswer
+    ensures { λ r. ⌜ Lists (now (bytes .entry)) (now (out .entry)) r (now (out .exit)) ⌝ }
+{
+    if out.len() < Listing::LONGEST {
+        return ListAnswer::TooShort;
+    }
+    let mut times = places();
+    let mut one = places();
+    let mut two = places();
+    let mut three = places();
+    let mut four = places();
+    list_read(
+        bytes,
+        &mut times,
+        &mut one,
+        &mut two,
+        &mut three,
+        &mut four,
+        out,
+    )
+}
