@@ -1,0 +1,5 @@
+pub mod Words
+pub mod Moves
+pub mod Sights
+pub mod Outputs
+pub mod Shown

@@ -1,0 +1,40 @@
+-- Demand 3: the premises give the weaker ones, and so every output is a word that the plant showed within the age bound.
+use Prim.Native.Nat.{ℕ, zero, suc, _+_, _*_, _≤_, _<_}
+use native.Mathlib.Omega.{arith}
+use native.Mathlib.Decide.{decLt}
+use native.Mathlib.Nat.{add-suc, add-zero, suc-mul, zero-mul}
+use mathlib.Core.Path.{_≡_}
+use mathlib.Core.Logic.{dite}
+use Rattle.plant.specs.Plant.{Watch, There, Enough, GapLeast, Observed, TrulyShown, outputs}
+use Rattle.plant.specs.Weaker.{Sufficient}
+use Rattle.plant.proofs.Outputs.{outputs-shown}
+
+-- m gaps together are at least m·Tm
+gaps : (w : Watch) → GapLeast w → (m k : ℕ) → There w (k + m) → w .taken k + m * w .tm ≤ w .taken (k + m)
+gaps w h zero k l = rw (add-zero, zero-mul) (omega arith)
+gaps w h (suc m) k l =
+    let on : There w (suc (k + m)) = rw add-suc at l in
+    rw (add-suc, suc-mul) (omega (arith, h (k + m) on, gaps w h m k (omega arith)))
+
+some : (w : Watch) → Enough w → 1 ≤ w .need
+some w e = dite (decLt 0 (w .need)) (λ l. l) (λ n. let z : w .need ≡ 0 = omega arith in let h : w .d < 0 * w .tm = rw z at e in absurd (omega (arith, zero-mul (w .tm))))
+
+pub sufficient : (w : Watch) → Observed w → Sufficient w (w .taken 0)
+sufficient w o = record {
+  counted = some w (o .enough);
+  outlasts = λ k l. omega (arith, o .enough, gaps w (o .gap-least) (w .need) k l);
+  in-order = λ k l. omega (arith, o .gap-least k l);
+  fits = o .fits;
+  gap-most = o .gap-most;
+  formed = o .formed;
+  late = o .late;
+  forward = o .forward;
+  starts = o .rests (w .taken 0) (omega arith);
+  start-before = omega arith;
+  start-recent = omega arith;
+  rests = λ s l h. o .rests s l;
+  quiet = λ i s s′ il l a b. omega (arith, o .quiet i s s′ il l a b);
+}
+
+pub truly-shown : (w : Watch) → Observed w → TrulyShown w (outputs w)
+truly-shown w o = outputs-shown w (w .taken 0) (sufficient w o)

@@ -1,0 +1,3 @@
+pub mod Plant
+pub mod Premises
+pub mod Weaker

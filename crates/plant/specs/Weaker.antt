@@ -1,0 +1,26 @@
+-- What demand 3's premises are needed for, and no more: weaker premises from which the same conclusion follows.
+use Prim.Native.Nat.{ℕ, suc, _+_, _≤_, _<_}
+use mathlib.Core.Path.{_≡_}
+use Rattle.sizing.specs.Sizing.{quietGap}
+use Rattle.plant.specs.Plant.{Watch, There, Changes, Fits, GapMost, Formed, Late, Forward}
+
+-- `start` is a moment at which the plant showed the initial word
+pub record Sufficient (w : Watch) (start : ℕ) : Type 0 where
+  -- N is not 0
+  pub counted : 1 ≤ w .need
+  -- N gaps together last at least D; no gap of its own has to reach Tm
+  pub outlasts : (k : ℕ) → There w (k + w .need) → w .taken k + w .d ≤ w .taken (k + w .need)
+  pub in-order : (k : ℕ) → There w (suc k) → w .taken k ≤ w .taken (suc k)
+  pub fits : Fits w
+  pub gap-most : GapMost w
+  pub formed : Formed w
+  pub late : Late w
+  pub forward : Forward w
+  -- the plant shows the initial word at the start, which may be as long as TM + D before the first sample
+  pub starts : w .plant start ≡ w .initial
+  pub start-before : start ≤ w .taken 0
+  pub start-recent : w .taken 0 ≤ start + w .tM + w .d
+  -- and rests there from D before the first sample on, as far back as a reading may reach
+  pub rests : (s : ℕ) → s ≤ start → w .taken 0 ≤ s + w .d → w .plant s ≡ w .initial
+  -- two changes of one signal are the quiet gap apart, or more
+  pub quiet : (i s s′ : ℕ) → i < w .n → s < s′ → Changes w i s → Changes w i s′ → s + quietGap (w .n) (w .need) (w .tM) (w .d) ≤ s′
