@@ -16,7 +16,7 @@ use Rattle.confirm.specs.Confirm.{fresh, held, confirmed, clauses}
 use Rattle.confirm.specs.Run.{steps, shownWord}
 use Rattle.confirm.proofs.Clauses.{byTests}
 use Rattle.sizing.specs.Sizing.{ageBound}
-use Rattle.plant.specs.Plant.{Watch, There, ShownBy, TrulyShown, outputs}
+use Rattle.plant.specs.Plant.{Watch, ShownBy, TrulyShown, outputs}
 use Rattle.plant.specs.Weaker.{Sufficient}
 use Rattle.plant.proofs.Words.{apart, apart-most}
 use Rattle.plant.proofs.Sights.{input, instant, earliest, anchored, one-more, recent, no-later}

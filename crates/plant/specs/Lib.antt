@@ -1,3 +1,4 @@
+pub mod Calls
 pub mod Plant
 pub mod Premises
 pub mod Weaker

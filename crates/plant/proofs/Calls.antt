@@ -1,0 +1,66 @@
+-- Demand 3 of the calls: what `confirm::run` leaves in the lent slice, and what the public steps answer from a fresh state.
+use mathlib.Core.Path.{_≡_, refl, sym, _∙_}
+use mathlib.Core.List.{map}
+use mathlib.Core.Bool.{false}
+use Prim.Native.Nat.{ℕ}
+use native.Mathlib.Omega.{arith}
+use denote.Ref.{now}
+use contract.Lifetimes.{Lfts}
+use lib.ListN.{getD}
+use Rattle.rules.specs.Limits.{badCount, outside}
+use Rattle.rules.specs.Table.{first, Given}
+use Rattle.rules.specs.Refusals.{makeRows}
+use Rattle.rules.proofs.Width.{lt-inside}
+use Rattle.rules.proofs.Signals.{bit-small, word-small}
+use Rattle.trace.specs.declared.RunAnswer.the-variants.{Done}
+use Rattle.trace.proofs.Steps.{agree}
+use Rattle.confirm.specs.Confirm.{fresh, clauses, made, madeOf, stepOf}
+use Rattle.confirm.specs.Run.{leaves, steps, publicSteps, shownWord}
+use Rattle.confirm.proofs.Exactly.{from-word-exactly}
+use Rattle.confirm.proofs.Stepwise.{Sound, step-is-clauses, sound-next}
+use Rattle.confirm.proofs.run.Reads as run
+use Rattle.plant.specs.Plant.{Watch, There, Formed, Observed, TrulyShown, outputs}
+use Rattle.plant.specs.Calls.{Means, RunOn}
+use Rattle.plant.proofs.Shown.{truly-shown}
+
+-- `confirm::run`: where it answers Done, the words that it has written into the lent slice
+pub run-shown :
+    (κs : Lfts 4) (w : Watch) → Observed w
+    → Means (run.Learnt κs)
+    (λ a z e. RunOn w (a .0) (a .1 .0) (a .1 .1 .0) (now (a .1 .1 .1 .0)) → z ≡ Done → TrulyShown w (now (e .1 .1 .1 .1 .0)))
+run-shown κs w o a z e p on done =
+    let written : now (e .1 .1 .1 .1 .0) ≡ outputs w = p .words-after ∙ simp (done, on .same-width, on .same-need, on .same-word, on .same-samples) in
+    rw written (truly-shown w o)
+
+-- a sample that is put together of signals is inside the width
+samples-inside : (w : Watch) → Formed w → (k : ℕ) → There w k → outside (w .n) (getD (w .samples) k 0) ≡ false
+samples-inside w f k l = lt-inside (w .n) _ (rw (f k l) (word-small _ (λ i. bit-small i _) (w .n)))
+
+-- where the constructor takes the watch's n, N and initial word
+module _ (w : Watch) (o : Observed w) (taken : madeOf (w .n) (w .need) (w .initial) .refusal ≡ 0) where
+  none-refused : Given 0 (makeRows (badCount (w .need)) (w .n) (w .initial))
+  none-refused = from-word-exactly (w .n) (w .need) (w .initial) 0 .0 taken
+
+  made-fresh : madeOf (w .n) (w .need) (w .initial) ≡ made (w .n) (w .need) (w .initial)
+  unfolding madeOf first
+  made-fresh = simp (none-refused .0, none-refused .1 .0, none-refused .1 .1 .0)
+
+  sound : Sound (w .n) (fresh (w .n) (w .need) (w .initial))
+  sound = record {
+    width = refl;
+    counted = none-refused .0;
+    wide = none-refused .1 .0;
+    small = omega arith;
+    input-in = none-refused .1 .1 .0;
+    output-in = none-refused .1 .1 .0;
+  }
+
+  -- the public steps from the state that it made are the clauses, so none is refused
+  pub public-steps : publicSteps (madeOf (w .n) (w .need) (w .initial) .state) (w .samples) ≡ steps (fresh (w .n) (w .need) (w .initial)) (w .samples)
+  public-steps =
+      rw made-fresh
+      (sym (agree clauses stepOf leaves (Sound (w .n)) (λ (x : ℕ). outside (w .n) x ≡ false) (step-is-clauses (w .n)) (sound-next (w .n)) 0
+      (fresh (w .n) (w .need) (w .initial)) (w .samples) sound (samples-inside w (o .formed))))
+
+  pub steps-shown : TrulyShown w (map shownWord (publicSteps (madeOf (w .n) (w .need) (w .initial) .state) (w .samples)))
+  steps-shown = rw public-steps (truly-shown w o)
