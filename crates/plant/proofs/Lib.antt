@@ -6,3 +6,6 @@ pub mod Premises
 pub mod Shown
 pub mod Calls
 pub mod Sized
+pub mod Decisions
+pub mod Films
+pub mod Needed

@@ -2,7 +2,8 @@
 use mathlib.Core.Path.{_≡_, refl, sym, ap, _∙_}
 use mathlib.Core.Logic.{_↔_, dite}
 use mathlib.Core.List.{List, [], _∷_}
-use Prim.Native.Nat.{ℕ}
+use Prim.Native.Nat.{ℕ, _<_}
+use native.Mathlib.Omega.{arith}
 use native.Mathlib.Decide.{ℕ-discrete}
 use lib.ListN.{getD}
 use Rattle.plant.specs.Plant.{Watch, Observed}
@@ -50,7 +51,7 @@ number forward = 6
 number rests = 7
 number quiet = 8
 
-by-number : (p : Premise) → getD premises (number p) enough ≡ p
+pub by-number : (p : Premise) → getD premises (number p) enough ≡ p
 by-number enough = refl
 by-number fits = refl
 by-number gap-least = refl
@@ -60,6 +61,17 @@ by-number late = refl
 by-number forward = refl
 by-number rests = refl
 by-number quiet = refl
+
+pub number-small : (p : Premise) → number p < 9
+number-small enough = omega arith
+number-small fits = omega arith
+number-small gap-least = omega arith
+number-small gap-most = omega arith
+number-small formed = omega arith
+number-small late = omega arith
+number-small forward = omega arith
+number-small rests = omega arith
+number-small quiet = omega arith
 
 pub same-number : (p q : Premise) → number p ≡ number q → p ≡ q
 same-number p q e = sym (by-number p) ∙ ap (λ k. getD premises k enough) e ∙ by-number q

@@ -1,4 +1,6 @@
 pub mod Calls
+pub mod Film
+pub mod Films
 pub mod Plant
 pub mod Premises
 pub mod Weaker

@@ -1,6 +1,6 @@
 -- The premises of demand 3 by their names, so that one can be left out.
 use mathlib.Core.Logic.{_≢_}
-use Rattle.plant.specs.Plant.{Watch, Enough, Fits, GapLeast, GapMost, Formed, Late, Forward, Rests, Quiet}
+use Rattle.plant.specs.Plant.{Watch, Enough, Fits, GapLeast, GapMost, Formed, Late, Forward, Rests, Quiet, TrulyShown, outputs}
 
 pub data Premise : Type 0 where
   enough fits gap-least gap-most formed late forward rests quiet : Premise
@@ -19,3 +19,7 @@ Holds quiet = Quiet
 -- every premise but one
 abbrev pub AllBut : Premise → Watch → Type 0
 AllBut p w = (q : Premise) → q ≢ p → Holds q w
+
+-- a premise is needed: in some watch all others hold, and an output is a word that the plant did not show within the age bound
+abbrev pub Needed : Premise → Type 0
+Needed p = (w : Watch) × AllBut p w × (TrulyShown w (outputs w) → ⊥)

@@ -1,0 +1,162 @@
+-- The examples of demand 3: one that reaches the age bound, and for each premise one that breaks it alone.
+use Prim.Native.Nat.{ℕ}
+use mathlib.Core.List.{[], _∷_}
+use Rattle.plant.specs.Film.{Film}
+use Rattle.plant.specs.Premises.{Premise, enough, fits, gap-least, gap-most, formed, late, forward, rests, quiet}
+
+-- Every reading is 2 late; signal 0 moves at 3 and signal 1 at 6. The age bound is 2·3·1 + 2 = 8, and D > TM.
+abbrev pub slow : Film
+slow =
+    record {
+      n = 2;
+      need = 3;
+      tm = 1;
+      tM = 1;
+      d = 2;
+      initial = 0;
+      shown = 0 ∷ 0 ∷ 0 ∷ 1 ∷ 1 ∷ 1 ∷ 3 ∷ [];
+      samples = 0 ∷ 0 ∷ 0 ∷ 1 ∷ 1 ∷ 1 ∷ 3 ∷ 3 ∷ 3 ∷ 3 ∷ [];
+      taken = 2 ∷ 3 ∷ 4 ∷ 5 ∷ 6 ∷ 7 ∷ 8 ∷ 9 ∷ 10 ∷ 11 ∷ [];
+      read = (0 ∷ 1 ∷ 2 ∷ 3 ∷ 4 ∷ 5 ∷ 6 ∷ 7 ∷ 8 ∷ 9 ∷ []) ∷ (0 ∷ 1 ∷ 2 ∷ 3 ∷ 4 ∷ 5 ∷ 6 ∷ 7 ∷ 8 ∷ 9 ∷ []) ∷ [];
+    }
+
+-- For each premise, a film in which all others hold, and which shows a word that was never there, or was there too long ago.
+abbrev pub breaks : Premise → Film
+-- N·Tm is 2 and D is 3, one more: both signals move at 4, but signal 1 is read from before that twice. 1 is confirmed.
+breaks enough =
+    record {
+      n = 2;
+      need = 1;
+      tm = 2;
+      tM = 2;
+      d = 3;
+      initial = 0;
+      shown = 0 ∷ 0 ∷ 0 ∷ 0 ∷ 3 ∷ [];
+      samples = 0 ∷ 1 ∷ 1 ∷ [];
+      taken = 2 ∷ 4 ∷ 6 ∷ [];
+      read = (2 ∷ 4 ∷ 6 ∷ []) ∷ (2 ∷ 3 ∷ 3 ∷ []) ∷ [];
+    }
+-- The plant has a bit that is no signal. 0 is confirmed.
+breaks fits =
+    record {
+      n = 1;
+      need = 1;
+      tm = 1;
+      tM = 1;
+      d = 0;
+      initial = 2;
+      shown = 2 ∷ [];
+      samples = 0 ∷ 0 ∷ [];
+      taken = 0 ∷ 1 ∷ [];
+      read = (0 ∷ 1 ∷ []) ∷ [];
+    }
+-- Both signals move at 2, and two samples come at once. 1 is confirmed.
+breaks gap-least =
+    record {
+      n = 2;
+      need = 1;
+      tm = 2;
+      tM = 2;
+      d = 1;
+      initial = 0;
+      shown = 0 ∷ 0 ∷ 3 ∷ [];
+      samples = 0 ∷ 1 ∷ 1 ∷ [];
+      taken = 0 ∷ 2 ∷ 2 ∷ [];
+      read = (0 ∷ 2 ∷ 2 ∷ []) ∷ (0 ∷ 1 ∷ 1 ∷ []) ∷ [];
+    }
+-- The second sample comes after 2, one more than TM; the age bound is 1. 0 is held.
+breaks gap-most =
+    record {
+      n = 1;
+      need = 1;
+      tm = 1;
+      tM = 1;
+      d = 0;
+      initial = 0;
+      shown = 0 ∷ 1 ∷ [];
+      samples = 0 ∷ 1 ∷ [];
+      taken = 0 ∷ 2 ∷ [];
+      read = (0 ∷ 2 ∷ []) ∷ [];
+    }
+-- The samples show another word than the plant. 1 is confirmed.
+breaks formed =
+    record {
+      n = 1;
+      need = 1;
+      tm = 1;
+      tM = 1;
+      d = 0;
+      initial = 0;
+      shown = 0 ∷ [];
+      samples = 1 ∷ 1 ∷ [];
+      taken = 0 ∷ 1 ∷ [];
+      read = (0 ∷ 1 ∷ []) ∷ [];
+    }
+-- As `slow`, but every reading is 3 late, one more than D. 0 is held for 9, and the age bound is 8.
+breaks late =
+    record {
+      n = 2;
+      need = 3;
+      tm = 1;
+      tM = 1;
+      d = 2;
+      initial = 0;
+      shown = 0 ∷ 0 ∷ 0 ∷ 0 ∷ 1 ∷ 1 ∷ 1 ∷ 3 ∷ [];
+      samples = 0 ∷ 0 ∷ 0 ∷ 0 ∷ 1 ∷ 1 ∷ 1 ∷ 3 ∷ 3 ∷ 3 ∷ [];
+      taken = 3 ∷ 4 ∷ 5 ∷ 6 ∷ 7 ∷ 8 ∷ 9 ∷ 10 ∷ 11 ∷ 12 ∷ [];
+      read = (0 ∷ 1 ∷ 2 ∷ 3 ∷ 4 ∷ 5 ∷ 6 ∷ 7 ∷ 8 ∷ 9 ∷ []) ∷ (0 ∷ 1 ∷ 2 ∷ 3 ∷ 4 ∷ 5 ∷ 6 ∷ 7 ∷ 8 ∷ 9 ∷ []) ∷ [];
+    }
+-- Signal 0 moves at 3 and signal 1 at 8; both are read from before that once more. 0 is held for 9, and the age bound is 8.
+breaks forward =
+    record {
+      n = 2;
+      need = 3;
+      tm = 1;
+      tM = 1;
+      d = 2;
+      initial = 0;
+      shown = 0 ∷ 0 ∷ 0 ∷ 1 ∷ 1 ∷ 1 ∷ 1 ∷ 1 ∷ 3 ∷ [];
+      samples = 0 ∷ 1 ∷ 0 ∷ 1 ∷ 1 ∷ 1 ∷ 3 ∷ 1 ∷ 3 ∷ 3 ∷ [];
+      taken = 2 ∷ 3 ∷ 4 ∷ 5 ∷ 6 ∷ 7 ∷ 8 ∷ 9 ∷ 10 ∷ 11 ∷ [];
+      read = (2 ∷ 3 ∷ 2 ∷ 5 ∷ 6 ∷ 7 ∷ 8 ∷ 9 ∷ 10 ∷ 11 ∷ []) ∷ (2 ∷ 3 ∷ 4 ∷ 5 ∷ 6 ∷ 7 ∷ 8 ∷ 7 ∷ 10 ∷ 11 ∷ []) ∷ [];
+    }
+-- The plant has moved at the first sample's instant, before which there is none. 0 is held.
+breaks rests =
+    record {
+      n = 1;
+      need = 1;
+      tm = 1;
+      tM = 1;
+      d = 0;
+      initial = 0;
+      shown = 1 ∷ [];
+      samples = 1 ∷ [];
+      taken = 0 ∷ [];
+      read = (0 ∷ []) ∷ [];
+    }
+-- As in `slow`, but signal 0 moves again at 11, 8 after it moved; the quiet gap is 9. 0 is held for 9, and the age bound is 8.
+breaks quiet =
+    record {
+      n = 2;
+      need = 3;
+      tm = 1;
+      tM = 1;
+      d = 2;
+      initial = 0;
+      shown = 0 ∷ 0 ∷ 0 ∷ 1 ∷ 1 ∷ 1 ∷ 3 ∷ 3 ∷ 3 ∷ 3 ∷ 3 ∷ 2 ∷ [];
+      samples = 0 ∷ 0 ∷ 0 ∷ 1 ∷ 1 ∷ 1 ∷ 3 ∷ 3 ∷ 3 ∷ 2 ∷ [];
+      taken = 2 ∷ 3 ∷ 4 ∷ 5 ∷ 6 ∷ 7 ∷ 8 ∷ 9 ∷ 10 ∷ 11 ∷ [];
+      read = (0 ∷ 1 ∷ 2 ∷ 3 ∷ 4 ∷ 5 ∷ 6 ∷ 7 ∷ 8 ∷ 11 ∷ []) ∷ (0 ∷ 1 ∷ 2 ∷ 3 ∷ 4 ∷ 5 ∷ 6 ∷ 7 ∷ 8 ∷ 9 ∷ []) ∷ [];
+    }
+
+-- the sample at which the wrong word is shown
+abbrev pub wrongAt : Premise → ℕ
+wrongAt enough = 2
+wrongAt fits = 1
+wrongAt gap-least = 2
+wrongAt gap-most = 1
+wrongAt formed = 1
+wrongAt late = 9
+wrongAt forward = 9
+wrongAt rests = 0
+wrongAt quiet = 9
