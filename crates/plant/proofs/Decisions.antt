@@ -1,14 +1,13 @@
 -- Whether a film meets a premise, and whether it meets the conclusion, is decided by computing.
-use mathlib.Core.Path.{_≡_, refl, sym, ap, _∙_}
+use mathlib.Core.Path.{_≡_}
 use mathlib.Core.Logic.{_≢_, Dec·and, Dec·not, dite}
-use mathlib.Core.List.{List}
 use Prim.Native.Nat.{ℕ, zero, suc, _+_, _-_, _*_, _^_, _≤_, _<_, min}
 use native.Mathlib.Omega.{arith}
-use native.Mathlib.Decide.{ℕ-discrete, decLe, decLt, map-dec}
+use native.Mathlib.Decide.{ℕ-discrete, decLe, decLt}
 use lib.ListN.{length, getD}
 use Rattle.rules.specs.Bits.{bit}
 use Rattle.rules.specs.Signals.{asWord}
-use Rattle.sizing.specs.Sizing.{ageBound, quietGap}
+use Rattle.sizing.specs.Sizing.{quietGap}
 use Rattle.plant.specs.Plant.{Watch, There, Changes, Enough, Fits, GapLeast, GapMost, Formed, Late, Forward, Rests, Quiet}
 use Rattle.plant.specs.Film.{Film, last, watch}
 use Rattle.plant.specs.Premises.{Premise, enough, fits, gap-least, gap-most, formed, late, forward, rests, quiet, Holds}
@@ -19,17 +18,9 @@ abbrev pub Sure : {P : Type 0} → Dec P → Type 0
 Sure (yes p) = Unit {0}
 Sure (no n) = ⊥
 
-abbrev pub SureNot : {P : Type 0} → Dec P → Type 0
-SureNot (yes p) = ⊥
-SureNot (no n) = Unit {0}
-
 pub surely : {P : Type 0} (d : Dec P) → Sure d → P
 surely (yes p) t = p
 surely (no n) t = absurd t
-
-pub surely-not : {P : Type 0} (d : Dec P) → SureNot d → P → ⊥
-surely-not (yes p) t = absurd t
-surely-not (no n) t = n
 
 -- an implication, whose end may take its premise for granted
 unfoldable pub implied : {P Q : Type 0} → Dec P → Dec Q → Dec (P → Q)

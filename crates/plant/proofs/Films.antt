@@ -1,7 +1,5 @@
 -- What is decided of a film, read out: its premises, all or all but one, and that a word of it was not shown.
-use mathlib.Core.Path.{_≡_}
-use mathlib.Core.Logic.{_≢_}
-use Prim.Native.Nat.{ℕ, suc, _+_, _≤_, _<_}
+use Prim.Native.Nat.{ℕ}
 use native.Mathlib.Omega.{arith}
 use Rattle.plant.specs.Plant.{Observed, ShownBy}
 use Rattle.plant.specs.Film.{Film, watch}

@@ -9,3 +9,5 @@ pub mod Sized
 pub mod Decisions
 pub mod Films
 pub mod Needed
+pub mod Reached
+pub mod Moving

@@ -1,13 +1,12 @@
 -- No premise of demand 3 is idle: for each there is a watch in which all others hold and an output is wrong.
 use mathlib.Core.Logic.{Dec·and, Dec·not}
-use Prim.Native.Nat.{ℕ}
 use native.Mathlib.Decide.{ℕ-discrete, decLe, decLt}
 use lib.ListN.{getD, length}
 use Rattle.rules.specs.Signals.{asWord}
 use Rattle.trace.specs.Trace.{trace}
 use Rattle.confirm.specs.Confirm.{clauses}
 use Rattle.sizing.specs.Sizing.{ageBound}
-use Rattle.plant.specs.Plant.{Watch, outputs}
+use Rattle.plant.specs.Plant.{outputs}
 use Rattle.plant.specs.Film.{watch}
 use Rattle.plant.specs.Films.{breaks, wrongAt}
 use Rattle.plant.specs.Premises.{Premise, enough, fits, gap-least, gap-most, formed, late, forward, rests, quiet, Needed}

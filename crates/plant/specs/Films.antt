@@ -1,6 +1,7 @@
 -- The examples of demand 3: one that reaches the age bound, and for each premise one that breaks it alone.
-use Prim.Native.Nat.{ℕ}
+use Prim.Native.Nat.{ℕ, _+_, _*_}
 use mathlib.Core.List.{[], _∷_}
+use Rattle.plant.specs.Plant.{Watch}
 use Rattle.plant.specs.Film.{Film}
 use Rattle.plant.specs.Premises.{Premise, enough, fits, gap-least, gap-most, formed, late, forward, rests, quiet}
 
@@ -160,3 +161,7 @@ wrongAt late = 9
 wrongAt forward = 9
 wrongAt rests = 0
 wrongAt quiet = 9
+
+-- document 000's age bound, (n·N+1)·T
+abbrev pub paperAge : Watch → ℕ
+paperAge w = (w .n * w .need + 1) * w .tM

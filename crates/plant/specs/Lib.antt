@@ -1,6 +1,7 @@
 pub mod Calls
 pub mod Film
 pub mod Films
+pub mod Moving
 pub mod Plant
 pub mod Premises
 pub mod Weaker

@@ -1,0 +1,60 @@
+-- The age bound is reached, document 000's is exceeded, and a library that shows the initial word for ever fails.
+use mathlib.Core.Path.{_≡_, refl}
+use mathlib.Core.Logic.{_≢_, dite, Dec·and, Dec·not}
+use mathlib.Core.List.{List, [], _∷_, map}
+use Prim.Native.Nat.{ℕ, zero, suc, _+_, _≤_, _<_}
+use native.Mathlib.Omega.{arith}
+use native.Mathlib.Decide.{ℕ-discrete, decLe, decLt}
+use lib.ListN.{length, getD}
+use Rattle.rules.specs.Signals.{asWord}
+use Rattle.trace.specs.Trace.{trace}
+use Rattle.confirm.specs.Confirm.{clauses}
+use Rattle.sizing.specs.Sizing.{ageBound}
+use Rattle.plant.specs.Plant.{Watch, There, Observed, ShownBy, TrulyShown, outputs}
+use Rattle.plant.specs.Film.{watch}
+use Rattle.plant.specs.Films.{slow, paperAge}
+use Rattle.plant.proofs.Decisions.{implied, everyBelow, decide, decOthers, decMissed}
+use Rattle.plant.proofs.Films.{film-observed, not-shown}
+
+pub slow-observed : Observed (watch slow)
+unfolding decOthers decide everyBelow implied decLt decLe ℕ-discrete Dec·and Dec·not asWord
+slow-observed = film-observed slow tt
+
+-- at sample 8 the word that is shown was last shown by the plant 8 before, n·N·TM + D
+pub reached :
+    let w = watch slow in
+    (h : ShownBy (w .plant) (getD (outputs w) 8 0) (w .taken 8) (ageBound (w .n) (w .need) (w .tM) (w .d)))
+    → h .moment + ageBound (w .n) (w .need) (w .tM) (w .d) ≡ w .taken 8
+unfolding decMissed everyBelow implied decLe ℕ-discrete Dec·not trace clauses
+reached h =
+    dite (ℕ-discrete (h .moment + 8) 10) (λ e. e)
+    (λ d. absurd (not-shown (watch slow .plant) (getD (outputs (watch slow)) 8 0) 10 7 tt
+    (record { moment = h .moment; no-later = h .no-later; recent = omega arith; whole = h .whole })))
+
+-- D is above TM there, and so that is more than (n·N+1)·TM
+pub paper-exceeded : let w = watch slow in ShownBy (w .plant) (getD (outputs w) 8 0) (w .taken 8) (paperAge w) → ⊥
+unfolding decMissed everyBelow implied decLe ℕ-discrete Dec·not trace clauses
+paper-exceeded = not-shown (watch slow .plant) (getD (outputs (watch slow)) 8 0) 10 7 tt
+
+-- the initial word for ever
+abbrev pub frozen : Watch → List ℕ
+frozen w = map (λ (x : ℕ). w .initial) (w .samples)
+
+everywhere : (word : ℕ) (xs : List ℕ) (k : ℕ) → k < length xs → getD (map (λ (x : ℕ). word) xs) k 0 ≡ word
+everywhere word [] k l = absurd (omega (arith, l))
+everywhere word (x ∷ xs) zero l = refl
+everywhere word (x ∷ xs) (suc k) l = everywhere word xs k (omega arith)
+
+-- fails at each sample before which the plant has not shown the initial word for longer than the age bound
+pub frozen-fails :
+    (w : Watch) (k : ℕ) → There w k
+    → ((m : ℕ) → m ≤ w .taken k → w .taken k ≤ m + ageBound (w .n) (w .need) (w .tM) (w .d) → w .plant m ≢ w .initial)
+    → TrulyShown w (frozen w) → ⊥
+frozen-fails w k l moved shown =
+    let h = rw (everywhere (w .initial) (w .samples) k l) at (shown k l) in
+    moved (h .moment) (h .no-later) (h .recent) (h .whole)
+
+-- and there is such a sample where every premise holds
+pub slow-not-frozen : TrulyShown (watch slow) (frozen (watch slow)) → ⊥
+unfolding decMissed everyBelow implied decLe ℕ-discrete Dec·not
+slow-not-frozen shown = not-shown (watch slow .plant) 0 11 8 tt (shown 9 (omega arith))
