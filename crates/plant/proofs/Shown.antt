@@ -32,7 +32,6 @@ sufficient w o = record {
   starts = o .rests (w .taken 0) (omega arith);
   start-before = omega arith;
   start-recent = omega arith;
-  rests = λ s l h. o .rests s l;
   quiet = λ i s s′ il l a b. omega (arith, o .quiet i s s′ il l a b);
 }
 

@@ -1,8 +1,8 @@
 -- The initial word counts as a sample before the first, taken and read at the start: input 0 is the initial word, input k + 1 is sample k.
--- What weaker premises say of such inputs, as the induction over a trace needs it.
+-- What weaker premises than demand 3's say of such inputs, as the induction over a trace needs it.
 use mathlib.Core.Path.{_≡_, refl, sym, ap, _∙_}
 use mathlib.Core.Logic.{_≢_, dite, Ne·symm}
-use Prim.Native.Nat.{ℕ, zero, suc, _+_, _-_, _*_, _^_, _≤_, _<_, max}
+use Prim.Native.Nat.{ℕ, zero, suc, _+_, _-_, _*_, _^_, _≤_, _<_}
 use native.Mathlib.Omega.{arith}
 use native.Mathlib.Decide.{ℕ-discrete, decLe}
 use native.Mathlib.Nat.{suc-mul, zero-mul, one-mul, mul-le-mul-right}
@@ -10,12 +10,12 @@ use lib.ListN.{length, getD}
 use Rattle.rules.specs.Bits.{bit}
 use Rattle.rules.proofs.Signals.{bit-small, word-small, word-bit}
 use Rattle.sizing.specs.Sizing.{ageBound, quietGap}
-use Rattle.plant.specs.Plant.{Watch}
+use Rattle.plant.specs.Plant.{Watch, ShownBy}
 use Rattle.plant.specs.Weaker.{Sufficient}
 use Rattle.plant.proofs.Words.{words-agree, apart, apart-grows}
 use Rattle.plant.proofs.Moves.{once, still}
 
--- input k, its instant, and the moment at which its signal i was read; readings before the start saw what the start shows
+-- input k, its instant, and the moment at which its signal i was read
 abbrev pub input : Watch → ℕ → ℕ
 input w zero = w .initial
 input w (suc k) = getD (w .samples) k 0
@@ -24,14 +24,25 @@ abbrev pub instant : Watch → ℕ → ℕ → ℕ
 instant w start zero = start
 instant w start (suc k) = w .taken k
 
-abbrev reading : Watch → ℕ → ℕ → ℕ → ℕ
+abbrev pub reading : Watch → ℕ → ℕ → ℕ → ℕ
 reading w start i zero = start
-reading w start i (suc k) = max start (w .read i k)
+reading w start i (suc k) = w .read i k
 
 -- the earliest moment at which a signal of input k can have been read
 abbrev pub earliest : Watch → ℕ → ℕ → ℕ
 earliest w start zero = start
-earliest w start (suc k) = max start (w .taken k - w .d)
+earliest w start (suc k) = w .taken k - w .d
+
+-- the plant showed the word as a whole at a moment at which input k can have been read
+pub record Sight (w : Watch) (start k word : ℕ) : Type 0 where
+  pub moment : ℕ
+  pub not-early : earliest w start k ≤ moment
+  pub no-later : moment ≤ instant w start k
+  pub whole : w .plant moment ≡ word
+
+-- no signal of input k is read before that of input q
+abbrev pub Ordered : Watch → ℕ → ℕ → ℕ → Type 0
+Ordered w start q k = (i : ℕ) → i < w .n → reading w start i q ≤ reading w start i k
 
 -- what never falls from one place to the next does not fall
 climbs : (f : ℕ → ℕ) (end : ℕ) → ((k : ℕ) → k < end → f k ≤ f (suc k)) → (q k : ℕ) → q ≤ k → k ≤ end → f q ≤ f k
@@ -61,48 +72,21 @@ module _ (w : Watch) (start : ℕ) (o : Sufficient w start) where
       rw (z, y, one-mul) (o .start-recent)
   span (suc m) q (suc (suc k)) e l = rw suc-mul (omega (arith, o .gap-most k l, span m q (suc k) (omega arith) (omega arith)))
 
-  start-earliest : (k : ℕ) → start ≤ earliest w start k
-  start-earliest zero = omega arith
-  start-earliest (suc k) = omega arith
-
   module _ (i : ℕ) (il : i < w .n) where
-    forward : (k : ℕ) → k < end → reading w start i k ≤ reading w start i (suc k)
-    forward zero l = omega arith
-    forward (suc k) l = omega (arith, o .forward i k il l)
-
     not-early : (k : ℕ) → k ≤ end → earliest w start k ≤ reading w start i k
     not-early zero l = omega arith
     not-early (suc k) l = omega (arith, o .late i k il l)
 
     not-ahead : (k : ℕ) → k ≤ end → reading w start i k ≤ instant w start k
     not-ahead zero l = omega arith
-    not-ahead (suc k) l = let s = later 0 (suc k) (omega arith) l in omega (arith, o .late i k il l)
-
-    -- what was read N inputs before an input was read before the earliest moment of this one
-    seen-before : (j k : ℕ) → j ≡ k - w .need → k ≤ end → reading w start i j ≤ earliest w start k
-    seen-before zero k e l = start-earliest k
-    seen-before (suc j) zero e l = absurd (omega arith)
-    seen-before (suc j) (suc k) e l =
-        let s : j + w .need ≡ k = omega arith in
-        omega (arith, o .late i j il (omega arith), rw s at (o .outlasts j (omega arith)))
+    not-ahead (suc k) l = omega (arith, o .late i k il l)
 
     abbrev shown : ℕ → ℕ
     shown s = bit i (w .plant s)
 
     shows : (k : ℕ) → k ≤ end → bit i (input w k) ≡ shown (reading w start i k)
     shows zero l = sym (ap (bit i) (o .starts))
-    shows (suc k) l = ap (bit i) (o .formed k l) ∙ word-bit _ (λ j. bit-small j _) (w .n) i il ∙ ap (bit i) clamped where
-      moment : ℕ
-      moment = w .read i k
-
-      reach : w .read i 0 ≤ moment
-      reach = climbs (w .read i) k (λ j m. o .forward i j il (omega arith)) 0 k (omega arith) (omega arith)
-
-      clamped : w .plant moment ≡ w .plant (max start moment)
-      clamped =
-          dite (decLe start moment)
-          (λ h. let e : max start moment ≡ moment = omega arith in rw e)
-          (λ h. let e : max start moment ≡ start = omega arith in rw e (o .rests moment (omega arith) (omega (arith, reach, o .late i 0 il (omega arith))) ∙ sym (o .starts)))
+    shows (suc k) l = ap (bit i) (o .formed k l) ∙ word-bit _ (λ j. bit-small j _) (w .n) i il
 
     -- a signal moves at most once, and is still between alike moments, within the quiet gap
     abbrev gap : ℕ
@@ -117,20 +101,22 @@ module _ (w : Watch) (start : ℕ) (o : Sufficient w start) where
     few : (m : ℕ) → m ≤ w .need → m ≤ w .n * w .need + 1
     few m h = omega (arith, one-mul (w .need), mul-le-mul-right (w .need) il)
 
-    anchored-signal : (k : ℕ) → k ≤ end → input w (k - w .need) ≡ input w k → shown (earliest w start k) ≡ bit i (input w k)
-    anchored-signal k l same =
-        still shown gap (λ s s′. o .quiet i s s′ il) (reading w start i (k - w .need)) (earliest w start k) (reading w start i k)
-        (seen-before (k - w .need) k refl l) (not-early k l)
-        (within (k - (k - w .need)) (k - w .need) k (omega arith) l (few (k - (k - w .need)) (omega arith)))
-        (sym (shows (k - w .need) (omega arith)) ∙ ap (bit i) same ∙ shows k l)
+    -- a signal that is alike in inputs j and k is so at every moment between its readings
+    still-signal :
+        (j k m : ℕ) → j ≤ k → k ≤ j + w .need → k ≤ end → input w j ≡ input w k → reading w start i j ≤ m → m ≤ reading w start i k
+        → shown m ≡ bit i (input w k)
+    still-signal j k m jk near l same a b =
+        still shown gap (λ s s′. o .quiet i s s′ il) (reading w start i j) m (reading w start i k) a b
+        (within (k - j) j k (omega arith) l (few (k - j) (omega arith)))
+        (sym (shows j (omega arith)) ∙ ap (bit i) same ∙ shows k l)
         ∙ sym (shows k l)
 
     moved-once :
-        (q k : ℕ) → q ≤ k → k < end → k ≤ q + w .n * w .need
+        (q k : ℕ) → q ≤ k → k < end → k ≤ q + w .n * w .need → Ordered w start q k → Ordered w start k (suc k)
         → bit i (input w q) ≢ bit i (input w k) → bit i (input w k) ≢ bit i (input w (suc k)) → ⊥
-    moved-once q k qk l near a b =
+    moved-once q k qk l near before after a b =
         once shown gap (λ s s′. o .quiet i s s′ il) (reading w start i q) (reading w start i k) (reading w start i (suc k))
-        (climbs (reading w start i) end forward q k qk (omega arith)) (forward k l) (within (suc k - q) q (suc k) (omega arith) l (omega arith))
+        (before i il) (after i il) (within (suc k - q) q (suc k) (omega arith) l (omega arith))
         (λ e. a (shows q (omega arith) ∙ e ∙ sym (shows k (omega arith))))
         (λ e. b (shows k (omega arith) ∙ e ∙ sym (shows (suc k) l)))
 
@@ -138,29 +124,94 @@ module _ (w : Watch) (start : ℕ) (o : Sufficient w start) where
   input-fits zero l = rw (← o .starts) (o .fits start)
   input-fits (suc k) l = rw (o .formed k l) (word-small _ (λ j. bit-small j _) (w .n))
 
+  -- a whole word, from moments between the readings of two alike inputs
+  still-word :
+      (j k m : ℕ) → j ≤ k → k ≤ j + w .need → k ≤ end → input w j ≡ input w k
+      → ((i : ℕ) → i < w .n → (reading w start i j ≤ m) × (m ≤ reading w start i k))
+      → w .plant m ≡ input w k
+  still-word j k m jk near l same between =
+      words-agree (w .n) _ _ (o .fits m) (input-fits k l) (λ i il. still-signal i il j k m jk near l same (between i il .0) (between i il .1))
+
   -- An input that is like the one N before it, or like the initial word if there are not so many, was shown as a whole: at its
-  -- earliest moment, each signal was already, and was still, as it was read.
-  pub anchored : (k : ℕ) → k ≤ end → input w (k - w .need) ≡ input w k → w .plant (earliest w start k) ≡ input w k
-  anchored k l same = words-agree (w .n) _ _ (o .fits (earliest w start k)) (input-fits k l) (λ i il. anchored-signal i il k l same)
+  -- earliest moment each signal was already, and was still, as it was read.
+  pub anchored : (k : ℕ) → k ≤ end → input w (k - w .need) ≡ input w k → Sight w start k (input w k)
+  anchored zero l same = record { moment = start; not-early = omega arith; no-later = omega arith; whole = o .starts }
+  anchored (suc k) l same = dite (decLe (w .need) k) old young where
+    old : w .need ≤ k → Sight w start (suc k) (input w (suc k))
+    old h =
+        let j : ℕ = k - w .need in
+        let at-j : suc k - w .need ≡ suc j = omega arith in
+        let at-k : j + w .need ≡ k = omega arith in
+        record {
+          moment = w .taken k - w .d;
+          not-early = omega arith;
+          no-later = omega arith;
+          whole =
+              still-word (suc j) (suc k) (w .taken k - w .d) (omega arith) (omega arith) l (rw at-j at same)
+              (λ i il. (omega (arith, o .late i j il (omega arith), rw at-k at (o .outlasts j (omega arith))), omega (arith, o .late i k il l)));
+        }
+
+    young : (w .need ≤ k → ⊥) → Sight w start (suc k) (input w (suc k))
+    young h =
+        let none : suc k - w .need ≡ 0 = omega arith in
+        let alike : w .initial ≡ input w (suc k) = rw none at same in
+        dite (decLe start (w .taken k - w .d))
+        (λ a. record {
+          moment = w .taken k - w .d;
+          not-early = omega arith;
+          no-later = omega arith;
+          whole = still-word 0 (suc k) (w .taken k - w .d) (omega arith) (omega arith) l alike (λ i il. (omega arith, omega (arith, o .late i k il l)));
+        })
+        (λ a. record {
+          moment = start;
+          not-early = omega arith;
+          no-later = later 0 (suc k) (omega arith) l;
+          whole = o .starts ∙ alike;
+        })
 
   -- A new input, n·N gaps after an old one or sooner, differs from it in one more signal, which makes room for N samples more.
   pub one-more :
-      (q k : ℕ) → q ≤ k → k < end → k ≤ q + w .n * w .need → input w (suc k) ≢ input w k
+      (q k : ℕ) → q ≤ k → k < end → k ≤ q + w .n * w .need → Ordered w start q k → Ordered w start k (suc k) → input w (suc k) ≢ input w k
       → apart (w .n) (input w q) (input w k) * w .need + w .need ≤ apart (w .n) (input w q) (input w (suc k)) * w .need
-  one-more q k qk l near d =
+  one-more q k qk l near before after d =
       rw suc-mul at
       (mul-le-mul-right (w .need)
       (apart-grows (w .n) (input w q) (input w k) (input w (suc k)) (input-fits k (omega arith)) (input-fits (suc k) l)
-      (λ i il. moved-once i il q k qk l near) (Ne·symm d)))
+      (λ i il. moved-once i il q k qk l near before after) (Ne·symm d)))
 
-  -- A moment of input q is no later than input k, and n·N gaps and a delay before it at most.
-  pub recent : (q k : ℕ) → q ≤ k → k ≤ end → k ≤ q + w .n * w .need → instant w start k ≤ earliest w start q + ageBound (w .n) (w .need) (w .tM) (w .d)
-  recent q k qk l near =
+  -- and inputs that are not alike differ in one signal at least
+  pub one-apart : (q k : ℕ) → q ≤ end → k ≤ end → input w q ≢ input w k → 1 ≤ apart (w .n) (input w q) (input w k)
+  one-apart q k ql kl d =
+      omega (arith, apart-grows (w .n) (input w q) (input w q) (input w k) (input-fits q ql) (input-fits k kl) (λ i il a b. a refl) d)
+
+  -- What was shown at input q was shown no later than input k, and n·N gaps and a delay before it at most.
+  pub not-old :
+      (q k word : ℕ) → q ≤ k → k ≤ end → k ≤ q + w .n * w .need → Sight w start q word
+      → ShownBy (w .plant) word (instant w start k) (ageBound (w .n) (w .need) (w .tM) (w .d))
+  not-old q k word qk l near h =
       let short : k - q ≤ w .n * w .need = omega arith in
-      omega (arith, span (k - q) q k (omega arith) l, mul-le-mul-right (w .tM) short)
+      record {
+        moment = h .moment;
+        no-later = omega (arith, later q k qk l);
+        recent = omega (arith, span (k - q) q k (omega arith) l, mul-le-mul-right (w .tM) short);
+        whole = h .whole;
+      }
 
-  pub no-later : (q k : ℕ) → q ≤ k → k ≤ end → earliest w start q ≤ instant w start k
-  no-later q k qk l = omega (arith, before q (omega arith), later q k qk l) where
-    before : (q : ℕ) → q ≤ end → earliest w start q ≤ instant w start q
-    before zero l = omega arith
-    before (suc q) l = omega (arith, later 0 (suc q) (omega arith) l)
+  -- While at most D has passed since the start, what it shows can have been read.
+  pub start-sight : (q k : ℕ) → q ≤ k → k ≤ end → instant w start k ≤ start + w .d → Sight w start q (w .initial)
+  start-sight zero k qk l soon = record { moment = start; not-early = omega arith; no-later = omega arith; whole = o .starts }
+  start-sight (suc q) k qk l soon =
+      let upto = later (suc q) k qk l in
+      record { moment = start; not-early = omega arith; no-later = later 0 (suc q) (omega arith) (omega arith); whole = o .starts }
+
+  -- Samples are read in order.
+  pub ordered : (q k : ℕ) → 1 ≤ q → q ≤ k → k ≤ end → Ordered w start q k
+  ordered zero k some qk l i il = absurd (omega (arith, some))
+  ordered (suc q) zero some qk l i il = absurd (omega (arith, qk))
+  ordered (suc q) (suc k) some qk l i il = climbs (w .read i) k (λ j m. o .forward i j il (omega arith)) q k (omega arith) (omega arith)
+
+  -- After the time D from the start on, nothing is read that is older than the start.
+  pub far-ordered : (q k : ℕ) → q ≤ k → k ≤ end → start + w .d ≤ instant w start k → Ordered w start q k
+  far-ordered zero zero qk l far i il = omega arith
+  far-ordered zero (suc k) qk l far i il = omega (arith, o .late i k il l)
+  far-ordered (suc q) k qk l far i il = ordered (suc q) k (omega arith) qk l i il

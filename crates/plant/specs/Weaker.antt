@@ -16,11 +16,9 @@ pub record Sufficient (w : Watch) (start : ℕ) : Type 0 where
   pub formed : Formed w
   pub late : Late w
   pub forward : Forward w
-  -- the plant shows the initial word at the start, which may be as long as TM + D before the first sample
+  -- the plant shows the initial word at the start, which is at most TM + D before the first sample; it need not rest there
   pub starts : w .plant start ≡ w .initial
   pub start-before : start ≤ w .taken 0
   pub start-recent : w .taken 0 ≤ start + w .tM + w .d
-  -- and rests there from D before the first sample on, as far back as a reading may reach
-  pub rests : (s : ℕ) → s ≤ start → w .taken 0 ≤ s + w .d → w .plant s ≡ w .initial
   -- two changes of one signal are the quiet gap apart, or more
   pub quiet : (i s s′ : ℕ) → i < w .n → s < s′ → Changes w i s → Changes w i s′ → s + quietGap (w .n) (w .need) (w .tM) (w .d) ≤ s′
