@@ -8,9 +8,10 @@ use lib.ListN.{length, getD}
 use Rattle.rules.specs.Bits.{bit}
 use Rattle.rules.specs.Signals.{asWord}
 use Rattle.sizing.specs.Sizing.{quietGap}
-use Rattle.plant.specs.Plant.{Watch, There, Changes, Enough, Fits, GapLeast, GapMost, Formed, Late, Forward, Rests, Quiet}
+use Rattle.plant.specs.Plant.{Watch, There, Changes}
 use Rattle.plant.specs.Film.{Film, last, watch}
-use Rattle.plant.specs.Premises.{Premise, enough, fits, gap-least, gap-most, formed, late, forward, rests, quiet, Holds}
+use Rattle.plant.specs.Premises.{Premise, enough, fits, gap-least, gap-most, formed, late, forward, rests, quiet, Holds, Nearly}
+use Rattle.plant.specs.Edges.{QuietWithoutDelay}
 use Rattle.plant.proofs.Premises.{premises}
 
 -- what a decision has decided
@@ -57,70 +58,67 @@ module _ (f : Film) where
   abbrev end : ℕ
   end = length (f .samples)
 
-  unfoldable decEnough : Dec (Enough w)
-  decEnough = decLt (f .d) (f .need * f .tm)
-
-  unfoldable decFits : Dec (Fits w)
+  -- of the plant's words, of two samples in a row, of a signal's readings, of two readings in a row, of two changes of a signal
+  unfoldable everyWord : {P : ℕ → Type 0} → ((x : ℕ) → Dec (P x)) → Dec ((s : ℕ) → P (w .plant s))
   unfolding mapped
-  decFits =
+  everyWord d =
       mapped (λ h s. let e : min (min s (last f)) (last f) ≡ min s (last f) = omega arith in rw e at (h (min s (last f)) (omega arith))) (λ h s l. h s)
-      (everyBelow (suc (last f)) (λ s. decLt (w .plant s) (2 ^ f .n)))
+      (everyBelow (suc (last f)) (λ s. d (w .plant s)))
 
-  -- of two samples in a row
   unfoldable everyGap : {P : ℕ → Type 0} → ((k : ℕ) → Dec (P k)) → Dec ((k : ℕ) → There w (suc k) → P k)
   unfolding mapped
   everyGap d = mapped (λ h k l. h k (omega arith) l) (λ h k _ l. h k l) (everyBelow end (λ k. implied (decLt (suc k) end) (d k)))
 
-  unfoldable decGapLeast : Dec (GapLeast w)
-  unfolding everyGap
-  decGapLeast = everyGap (λ k. decLe (w .taken k + f .tm) (w .taken (suc k)))
-
-  unfoldable decGapMost : Dec (GapMost w)
-  unfolding everyGap
-  decGapMost = everyGap (λ k. decLe (w .taken (suc k)) (w .taken k + f .tM))
-
-  unfoldable decFormed : Dec (Formed w)
-  decFormed = everyBelow end (λ k. ℕ-discrete (getD (f .samples) k 0) (asWord (f .n) (λ i. bit i (w .plant (w .read i k)))))
-
-  unfoldable decLate : Dec (Late w)
+  unfoldable everyReading : {P : ℕ → ℕ → Type 0} → ((i k : ℕ) → Dec (P i k)) → Dec ((i k : ℕ) → i < f .n → There w k → P i k)
   unfolding mapped
-  decLate =
-      mapped (λ h i k il l. h i il k l) (λ h i il k l. h i k il l)
-      (everyBelow (f .n) (λ i. everyBelow end (λ k. Dec·and (decLe (w .read i k) (w .taken k)) (decLe (w .taken k) (w .read i k + f .d)))))
+  everyReading d = mapped (λ h i k il l. h i il k l) (λ h i il k l. h i k il l) (everyBelow (f .n) (λ i. everyBelow end (d i)))
 
-  unfoldable decForward : Dec (Forward w)
+  unfoldable everyNext : {P : ℕ → ℕ → Type 0} → ((i k : ℕ) → Dec (P i k)) → Dec ((i k : ℕ) → i < f .n → There w (suc k) → P i k)
   unfolding mapped everyGap
-  decForward =
-      mapped (λ h i k il l. h i il k l) (λ h i il k l. h i k il l)
-      (everyBelow (f .n) (λ i. everyGap (λ k. decLe (w .read i k) (w .read i (suc k)))))
+  everyNext d = mapped (λ h i k il l. h i il k l) (λ h i il k l. h i k il l) (everyBelow (f .n) (λ i. everyGap (d i)))
 
-  unfoldable decRests : Dec (Rests w)
-  unfolding mapped
-  decRests = mapped (λ h s l. h s (omega arith)) (λ h s l. h s (omega arith)) (everyBelow (suc (w .taken 0)) (λ s. ℕ-discrete (w .plant s) (f .initial)))
+  changes : (i s : ℕ) → Dec (Changes w i s)
+  changes i s = Dec·not (ℕ-discrete (bit i (w .plant (suc s))) (bit i (w .plant s)))
 
-  decChanges : (i s : ℕ) → Dec (Changes w i s)
-  decChanges i s = Dec·not (ℕ-discrete (bit i (w .plant (suc s))) (bit i (w .plant s)))
-
-  unfoldable decQuiet : Dec (Quiet w)
-  unfolding mapped decChanges
-  decQuiet =
+  unfoldable everyChange : {P : ℕ → ℕ → Type 0} → ((s s′ : ℕ) → Dec (P s s′)) → Dec ((i s s′ : ℕ) → i < f .n → s < s′ → Changes w i s → Changes w i s′ → P s s′)
+  unfolding mapped changes
+  everyChange d =
       mapped
       (λ h i s s′ il l a b. h i il s (changes-early f i s a) s′ (changes-early f i s′ b) l a b)
       (λ h i il s _ s′ _ l a b. h i s s′ il l a b)
-      (everyBelow (f .n) (λ i. everyBelow (last f) (λ s. everyBelow (last f) (λ s′.
-      implied (decLt s s′) (implied (decChanges i s) (implied (decChanges i s′) (decLt (s + quietGap (f .n) (f .need) (f .tM) (f .d)) s′)))))))
+      (everyBelow (f .n) (λ i. everyBelow (last f) (λ s. everyBelow (last f) (λ s′. implied (decLt s s′) (implied (changes i s) (implied (changes i s′) (d s s′)))))))
+
+  abbrev gap : ℕ
+  gap = quietGap (f .n) (f .need) (f .tM) (f .d)
 
 unfoldable pub decide : (p : Premise) (f : Film) → Dec (Holds p (watch f))
-unfolding decEnough decFits decGapLeast decGapMost decFormed decLate decForward decRests decQuiet
-decide enough = decEnough
-decide fits = decFits
-decide gap-least = decGapLeast
-decide gap-most = decGapMost
-decide formed = decFormed
-decide late = decLate
-decide forward = decForward
-decide rests = decRests
-decide quiet = decQuiet
+unfolding mapped everyWord everyGap everyReading everyNext everyChange
+decide enough f = decLt (f .d) (f .need * f .tm)
+decide fits f = everyWord f (λ x. decLt x (2 ^ f .n))
+decide gap-least f = everyGap f (λ k. decLe (watch f .taken k + f .tm) (watch f .taken (suc k)))
+decide gap-most f = everyGap f (λ k. decLe (watch f .taken (suc k)) (watch f .taken k + f .tM))
+decide formed f = everyBelow (end f) (λ k. ℕ-discrete (getD (f .samples) k 0) (asWord (f .n) (λ i. bit i (watch f .plant (watch f .read i k)))))
+decide late f = everyReading f (λ i k. Dec·and (decLe (watch f .read i k) (watch f .taken k)) (decLe (watch f .taken k) (watch f .read i k + f .d)))
+decide forward f = everyNext f (λ i k. decLe (watch f .read i k) (watch f .read i (suc k)))
+decide rests f = mapped (λ h s l. h s (omega arith)) (λ h s l. h s (omega arith)) (everyBelow (suc (watch f .taken 0)) (λ s. ℕ-discrete (watch f .plant s) (f .initial)))
+decide quiet f = everyChange f (λ s s′. decLt (s + gap f) s′)
+
+-- the same, missed by one
+unfoldable pub decNearly : (p : Premise) (f : Film) → Dec (Nearly p (watch f))
+unfolding everyWord everyGap everyReading everyNext everyChange
+decNearly enough f = decLe (f .d) (f .need * f .tm + 1)
+decNearly fits f = everyWord f (λ x. decLt x (2 ^ (f .n + 1)))
+decNearly gap-least f = everyGap f (λ k. decLe (watch f .taken k + f .tm) (watch f .taken (suc k) + 1))
+decNearly gap-most f = everyGap f (λ k. decLe (watch f .taken (suc k)) (watch f .taken k + f .tM + 1))
+decNearly formed f = yes tt
+decNearly late f = everyReading f (λ i k. Dec·and (decLe (watch f .read i k) (watch f .taken k)) (decLe (watch f .taken k) (watch f .read i k + f .d + 1)))
+decNearly forward f = everyNext f (λ i k. decLe (watch f .read i k) (watch f .read i (suc k) + 1))
+decNearly rests f = everyBelow (watch f .taken 0) (λ s. ℕ-discrete (watch f .plant s) (f .initial))
+decNearly quiet f = everyChange f (λ s s′. decLe (s + gap f) (s′ + 1))
+
+unfoldable pub decQuietWithoutDelay : (f : Film) → Dec (QuietWithoutDelay (watch f))
+unfolding everyChange
+decQuietWithoutDelay f = everyChange f (λ s s′. decLt (s + quietGap (f .n) (f .need) (f .tM) 0) s′)
 
 -- all premises, or all but the one with that number
 unfoldable pub decOthers : (skipped : ℕ) (f : Film) → Dec ((k : ℕ) → k < length premises → k ≢ skipped → Holds (getD premises k enough) (watch f))

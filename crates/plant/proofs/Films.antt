@@ -1,7 +1,10 @@
 -- What is decided of a film, read out: its premises, all or all but one, and that a word of it was not shown.
 use Prim.Native.Nat.{ℕ}
 use native.Mathlib.Omega.{arith}
-use Rattle.plant.specs.Plant.{Observed, ShownBy}
+use native.Mathlib.Decide.{decLt}
+use lib.ListN.{length, getD}
+use Rattle.sizing.specs.Sizing.{ageBound}
+use Rattle.plant.specs.Plant.{Observed, ShownBy, TrulyShown, outputs}
 use Rattle.plant.specs.Film.{Film, watch}
 use Rattle.plant.specs.Premises.{Premise, AllBut}
 use Rattle.plant.proofs.Premises.{all-premises, number, number-small, by-number, same-number}
@@ -15,3 +18,11 @@ film-observed f t = all-premises (watch f) .0 (λ q. rw (by-number q) at (surely
 
 pub not-shown : (plant : ℕ → ℕ) (word instant age : ℕ) → Sure (decMissed plant word instant age) → ShownBy plant word instant age → ⊥
 not-shown plant word instant age t h = surely (decMissed plant word instant age) t (h .moment) (omega arith) (h .recent) (h .whole)
+
+-- an output of a film that was not shown within the age bound
+pub film-wrong :
+    (f : Film) (k : ℕ) → let w = watch f in
+    Sure (decLt k (length (w .samples)))
+    → Sure (decMissed (w .plant) (getD (outputs w) k 0) (w .taken k) (ageBound (w .n) (w .need) (w .tM) (w .d)))
+    → TrulyShown w (outputs w) → ⊥
+film-wrong f k there missed shown = not-shown _ _ _ _ missed (shown k (surely (decLt k (length (f .samples))) there))

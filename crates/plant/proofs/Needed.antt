@@ -1,36 +1,62 @@
--- No premise of demand 3 is idle: for each there is a watch in which all others hold and an output is wrong.
+-- No premise of demand 3 is idle: for each there is a watch in which all others hold, that one is missed by one, and an output is wrong.
+use mathlib.Core.Path.{refl}
 use mathlib.Core.Logic.{Dec·and, Dec·not}
+use native.Mathlib.Omega.{arith}
+use Prim.Native.Nat.{ℕ}
 use native.Mathlib.Decide.{ℕ-discrete, decLe, decLt}
 use lib.ListN.{getD, length}
 use Rattle.rules.specs.Signals.{asWord}
 use Rattle.trace.specs.Trace.{trace}
 use Rattle.confirm.specs.Confirm.{clauses}
 use Rattle.sizing.specs.Sizing.{ageBound}
-use Rattle.plant.specs.Plant.{outputs}
-use Rattle.plant.specs.Film.{watch}
-use Rattle.plant.specs.Films.{breaks, wrongAt}
-use Rattle.plant.specs.Premises.{Premise, enough, fits, gap-least, gap-most, formed, late, forward, rests, quiet, Needed}
+use Rattle.plant.specs.Plant.{Watch, outputs}
+use Rattle.plant.specs.Film.{Film, watch}
+use Rattle.plant.specs.Films.{breaks, lateStart, uncounted}
+use Rattle.plant.specs.Premises.{Premise, enough, fits, gap-least, gap-most, formed, late, forward, rests, quiet, Nearly, TooWeak}
+use Rattle.plant.specs.Edges.{NoCount, LateStart, CountOneLess, QuietWithoutDelay}
 use Rattle.plant.proofs.Premises.{number}
-use Rattle.plant.proofs.Decisions.{Sure, surely, implied, everyBelow, decide, decOthers, decMissed}
-use Rattle.plant.proofs.Films.{film-all-but, not-shown}
+use Rattle.plant.proofs.Decisions.{Sure, surely, implied, everyBelow, decide, decNearly, decQuietWithoutDelay, decOthers, decMissed}
+use Rattle.plant.proofs.Films.{film-all-but, film-wrong}
 
-by-film :
-    (p : Premise) → let w = watch (breaks p) in let k = wrongAt p in
-    Sure (decOthers (number p) (breaks p))
-    → Sure (decLt k (length (w .samples)))
-    → Sure (decMissed (w .plant) (getD (outputs w) k 0) (w .taken k) (ageBound (w .n) (w .need) (w .tM) (w .d)))
-    → Needed p
-by-film p others there missed =
-    (watch (breaks p), film-all-but p (breaks p) others, λ shown. not-shown _ _ _ _ missed (shown (wrongAt p) (surely (decLt _ _) there)))
+module _ (p : Premise) (P : Watch → Type 0) (f : Film) (k : ℕ) where
+  by-film :
+      let w = watch f in
+      P w
+      → Sure (decOthers (number p) f)
+      → Sure (decLt k (length (f .samples)))
+      → Sure (decMissed (w .plant) (getD (outputs w) k 0) (w .taken k) (ageBound (w .n) (w .need) (w .tM) (w .d)))
+      → TooWeak p P
+  by-film held others there missed = (watch f, film-all-but p f others, held, film-wrong f k there missed)
 
-pub needed : (p : Premise) → Needed p
+abbrev nearly : (p : Premise) → Sure (decNearly p (breaks p)) → Nearly p (watch (breaks p))
+nearly p = surely (decNearly p (breaks p))
+
+pub needed : (p : Premise) → TooWeak p (Nearly p)
+unfolding decOthers decNearly decMissed decide everyBelow implied decLt decLe ℕ-discrete Dec·and Dec·not asWord trace clauses
+needed enough = by-film enough (Nearly enough) (breaks enough) 2 (nearly enough tt) tt tt tt
+needed fits = by-film fits (Nearly fits) (breaks fits) 1 (nearly fits tt) tt tt tt
+needed gap-least = by-film gap-least (Nearly gap-least) (breaks gap-least) 3 (nearly gap-least tt) tt tt tt
+needed gap-most = by-film gap-most (Nearly gap-most) (breaks gap-most) 1 (nearly gap-most tt) tt tt tt
+needed formed = by-film formed (Nearly formed) (breaks formed) 1 (nearly formed tt) tt tt tt
+needed late = by-film late (Nearly late) (breaks late) 9 (nearly late tt) tt tt tt
+needed forward = by-film forward (Nearly forward) (breaks forward) 9 (nearly forward tt) tt tt tt
+needed rests = by-film rests (Nearly rests) (breaks rests) 0 (nearly rests tt) tt tt tt
+needed quiet = by-film quiet (Nearly quiet) (breaks quiet) 9 (nearly quiet tt) tt tt tt
+
+-- the weaker premises end there too: one instant earlier is too early for the start, and N 0 does not do
+pub start-needed : TooWeak rests LateStart
 unfolding decOthers decMissed decide everyBelow implied decLt decLe ℕ-discrete Dec·and Dec·not asWord trace clauses
-needed enough = by-film enough tt tt tt
-needed fits = by-film fits tt tt tt
-needed gap-least = by-film gap-least tt tt tt
-needed gap-most = by-film gap-most tt tt tt
-needed formed = by-film formed tt tt tt
-needed late = by-film late tt tt tt
-needed forward = by-film forward tt tt tt
-needed rests = by-film rests tt tt tt
-needed quiet = by-film quiet tt tt tt
+start-needed = by-film rests LateStart lateStart 1 (0, refl, refl) tt tt tt
+
+pub count-needed : TooWeak enough NoCount
+unfolding decOthers decMissed decide everyBelow implied decLt decLe ℕ-discrete Dec·and Dec·not asWord trace clauses
+count-needed = by-film enough NoCount uncounted 1 (omega arith) tt tt tt
+
+-- the edits of must-fail/ that weaken a premise make the theorem false (a rest without the first sample's instant: `needed rests`)
+pub count-one-less : TooWeak enough CountOneLess
+unfolding decOthers decMissed decide everyBelow implied decLt decLe ℕ-discrete Dec·and Dec·not asWord trace clauses
+count-one-less = by-film enough CountOneLess (breaks enough) 2 (omega arith) tt tt tt
+
+pub quiet-without-delay : TooWeak quiet QuietWithoutDelay
+unfolding decQuietWithoutDelay decOthers decMissed decide everyBelow implied decLt decLe ℕ-discrete Dec·and Dec·not asWord trace clauses
+quiet-without-delay = by-film quiet QuietWithoutDelay (breaks quiet) 9 (surely (decQuietWithoutDelay (breaks quiet)) tt) tt tt tt

@@ -12,7 +12,9 @@ use Rattle.confirm.specs.Confirm.{clauses}
 use Rattle.sizing.specs.Sizing.{ageBound}
 use Rattle.plant.specs.Plant.{Watch, There, Observed, ShownBy, TrulyShown, outputs}
 use Rattle.plant.specs.Film.{watch}
-use Rattle.plant.specs.Films.{slow, paperAge}
+use Rattle.plant.specs.Films.{slow}
+use Rattle.plant.specs.Premises.{TooShort}
+use Rattle.plant.specs.Edges.{paperAge, ageWithoutDelay, oneRunFewer}
 use Rattle.plant.proofs.Decisions.{implied, everyBelow, decide, decOthers, decMissed}
 use Rattle.plant.proofs.Films.{film-observed, not-shown}
 
@@ -31,10 +33,19 @@ reached h =
     (λ d. absurd (not-shown (watch slow .plant) (getD (outputs (watch slow)) 8 0) 10 7 tt
     (record { moment = h .moment; no-later = h .no-later; recent = omega arith; whole = h .whole })))
 
--- D is above TM there, and so that is more than (n·N+1)·TM
-pub paper-exceeded : let w = watch slow in ShownBy (w .plant) (getD (outputs w) 8 0) (w .taken 8) (paperAge w) → ⊥
-unfolding decMissed everyBelow implied decLe ℕ-discrete Dec·not trace clauses
-paper-exceeded = not-shown (watch slow .plant) (getD (outputs (watch slow)) 8 0) 10 7 tt
+-- so each age below 8 is too short there
+too-short : (age : Watch → ℕ) → age (watch slow) < 8 → TooShort age
+too-short age l = (watch slow, slow-observed, λ shown. let h = shown 8 (omega arith) in absurd (omega (arith, reached (record { moment = h .moment; no-later = h .no-later; recent = omega arith; whole = h .whole }))))
+
+-- document 000's, where D is above TM, and the ages of the edits in must-fail/
+pub paper-exceeded : TooShort paperAge
+paper-exceeded = too-short paperAge (omega arith)
+
+pub age-without-delay : TooShort ageWithoutDelay
+age-without-delay = too-short ageWithoutDelay (omega arith)
+
+pub one-run-fewer : TooShort oneRunFewer
+one-run-fewer = too-short oneRunFewer (omega arith)
 
 -- the initial word for ever
 abbrev pub frozen : Watch → List ℕ

@@ -1,7 +1,5 @@
 -- The examples of demand 3: one that reaches the age bound, and for each premise one that breaks it alone.
-use Prim.Native.Nat.{ℕ, _+_, _*_}
 use mathlib.Core.List.{[], _∷_}
-use Rattle.plant.specs.Plant.{Watch}
 use Rattle.plant.specs.Film.{Film}
 use Rattle.plant.specs.Premises.{Premise, enough, fits, gap-least, gap-most, formed, late, forward, rests, quiet}
 
@@ -51,19 +49,19 @@ breaks fits =
       taken = 0 ∷ 1 ∷ [];
       read = (0 ∷ 1 ∷ []) ∷ [];
     }
--- Both signals move at 2, and two samples come at once. 1 is confirmed.
+-- Both signals move at 2, and three samples come at once. 1 is confirmed.
 breaks gap-least =
     record {
       n = 2;
-      need = 1;
-      tm = 2;
-      tM = 2;
+      need = 2;
+      tm = 1;
+      tM = 1;
       d = 1;
       initial = 0;
       shown = 0 ∷ 0 ∷ 3 ∷ [];
-      samples = 0 ∷ 1 ∷ 1 ∷ [];
-      taken = 0 ∷ 2 ∷ 2 ∷ [];
-      read = (0 ∷ 2 ∷ 2 ∷ []) ∷ (0 ∷ 1 ∷ 1 ∷ []) ∷ [];
+      samples = 0 ∷ 1 ∷ 1 ∷ 1 ∷ [];
+      taken = 1 ∷ 2 ∷ 2 ∷ 2 ∷ [];
+      read = (1 ∷ 2 ∷ 2 ∷ 2 ∷ []) ∷ (1 ∷ 1 ∷ 1 ∷ 1 ∷ []) ∷ [];
     }
 -- The second sample comes after 2, one more than TM; the age bound is 1. 0 is held.
 breaks gap-most =
@@ -150,18 +148,35 @@ breaks quiet =
       read = (0 ∷ 1 ∷ 2 ∷ 3 ∷ 4 ∷ 5 ∷ 6 ∷ 7 ∷ 8 ∷ 11 ∷ []) ∷ (0 ∷ 1 ∷ 2 ∷ 3 ∷ 4 ∷ 5 ∷ 6 ∷ 7 ∷ 8 ∷ 9 ∷ []) ∷ [];
     }
 
--- the sample at which the wrong word is shown
-abbrev pub wrongAt : Premise → ℕ
-wrongAt enough = 2
-wrongAt fits = 1
-wrongAt gap-least = 2
-wrongAt gap-most = 1
-wrongAt formed = 1
-wrongAt late = 9
-wrongAt forward = 9
-wrongAt rests = 0
-wrongAt quiet = 9
+-- The weaker premises have two edges more. The plant left the initial word 3 before the first sample, TM + D and one more: 0 is held
+-- for 4, and the age bound is 3.
+abbrev pub lateStart : Film
+lateStart =
+    record {
+      n = 1;
+      need = 2;
+      tm = 1;
+      tM = 1;
+      d = 1;
+      initial = 0;
+      shown = 0 ∷ 1 ∷ [];
+      samples = 1 ∷ 1 ∷ [];
+      taken = 3 ∷ 4 ∷ [];
+      read = (3 ∷ 4 ∷ []) ∷ [];
+    }
 
--- document 000's age bound, (n·N+1)·T
-abbrev pub paperAge : Watch → ℕ
-paperAge w = (w .n * w .need + 1) * w .tM
+-- N is 0, and D is no more than N·Tm: 0 is held for 1, and the age bound is 0.
+abbrev pub uncounted : Film
+uncounted =
+    record {
+      n = 1;
+      need = 0;
+      tm = 1;
+      tM = 1;
+      d = 0;
+      initial = 0;
+      shown = 0 ∷ 1 ∷ [];
+      samples = 0 ∷ 1 ∷ [];
+      taken = 0 ∷ 1 ∷ [];
+      read = (0 ∷ 1 ∷ []) ∷ [];
+    }

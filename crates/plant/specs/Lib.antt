@@ -1,4 +1,5 @@
 pub mod Calls
+pub mod Edges
 pub mod Film
 pub mod Films
 pub mod Moving
