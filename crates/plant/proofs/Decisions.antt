@@ -8,7 +8,7 @@ use lib.ListN.{length, getD}
 use Rattle.rules.specs.Bits.{bit}
 use Rattle.rules.specs.Signals.{asWord}
 use Rattle.sizing.specs.Sizing.{quietGap}
-use Rattle.plant.specs.Plant.{Watch, There, Changes}
+use Rattle.plant.specs.Plant.{Watch, gapOf, There, Changes}
 use Rattle.plant.specs.Film.{Film, last, watch}
 use Rattle.plant.specs.Premises.{Premise, enough, fits, gap-least, gap-most, formed, late, forward, rests, quiet, Holds, Nearly}
 use Rattle.plant.specs.Edges.{QuietWithoutDelay}
@@ -89,7 +89,7 @@ module _ (f : Film) where
       (everyBelow (f .n) (λ i. everyBelow (last f) (λ s. everyBelow (last f) (λ s′. implied (decLt s s′) (implied (changes i s) (implied (changes i s′) (d s s′)))))))
 
   abbrev gap : ℕ
-  gap = quietGap (f .n) (f .need) (f .tM) (f .d)
+  gap = gapOf w
 
 unfoldable pub decide : (p : Premise) (f : Film) → Dec (Holds p (watch f))
 unfolding mapped everyWord everyGap everyReading everyNext everyChange

@@ -3,8 +3,7 @@ use Prim.Native.Nat.{ℕ}
 use native.Mathlib.Omega.{arith}
 use native.Mathlib.Decide.{decLt}
 use lib.ListN.{length, getD}
-use Rattle.sizing.specs.Sizing.{ageBound}
-use Rattle.plant.specs.Plant.{Observed, ShownBy, TrulyShown, outputs}
+use Rattle.plant.specs.Plant.{ageOf, Observed, ShownBy, TrulyShown, outputs}
 use Rattle.plant.specs.Film.{Film, watch}
 use Rattle.plant.specs.Premises.{Premise, AllBut}
 use Rattle.plant.proofs.Premises.{all-premises, number, number-small, by-number, same-number}
@@ -23,6 +22,6 @@ not-shown plant word instant age t h = surely (decMissed plant word instant age)
 pub film-wrong :
     (f : Film) (k : ℕ) → let w = watch f in
     Sure (decLt k (length (w .samples)))
-    → Sure (decMissed (w .plant) (getD (outputs w) k 0) (w .taken k) (ageBound (w .n) (w .need) (w .tM) (w .d)))
+    → Sure (decMissed (w .plant) (getD (outputs w) k 0) (w .taken k) (ageOf w))
     → TrulyShown w (outputs w) → ⊥
 film-wrong f k there missed shown = not-shown _ _ _ _ missed (shown k (surely (decLt k (length (f .samples))) there))

@@ -15,9 +15,8 @@ use Rattle.rules.specs.Signals.{asWord, asList}
 use Rattle.rules.proofs.Signals.{word-small, word-bit, word-zero, list-length, place-below}
 use Rattle.trace.specs.Trace.{trace}
 use Rattle.confirm.specs.Confirm.{clauses}
-use Rattle.sizing.specs.Sizing.{quietGap}
 use Rattle.plant.specs.Plant.{Changes, Observed, outputs}
-use Rattle.plant.specs.Moving.{turning, moving}
+use Rattle.plant.specs.Moving.{period, turning, moving}
 
 -- place k of a list that is put together
 list-at : (f : ℕ → ℕ) (m k : ℕ) → k < m → getD (asList m f) k 0 ≡ f k
@@ -51,7 +50,7 @@ module _ (p : ℕ) (some : 0 < p) where
 
 module _ (n need tm tM d : ℕ) where
   abbrev p : ℕ
-  p = suc (quietGap n need tM d)
+  p = period n need tM d
 
   abbrev phase : ℕ → ℕ
   phase s = s / p % 2

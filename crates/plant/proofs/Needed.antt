@@ -8,8 +8,7 @@ use lib.ListN.{getD, length}
 use Rattle.rules.specs.Signals.{asWord}
 use Rattle.trace.specs.Trace.{trace}
 use Rattle.confirm.specs.Confirm.{clauses}
-use Rattle.sizing.specs.Sizing.{ageBound}
-use Rattle.plant.specs.Plant.{Watch, outputs}
+use Rattle.plant.specs.Plant.{Watch, ageOf, outputs}
 use Rattle.plant.specs.Film.{Film, watch}
 use Rattle.plant.specs.Films.{breaks, lateStart, uncounted}
 use Rattle.plant.specs.Premises.{Premise, enough, fits, gap-least, gap-most, formed, late, forward, rests, quiet, Nearly, TooWeak}
@@ -24,7 +23,7 @@ module _ (p : Premise) (P : Watch → Type 0) (f : Film) (k : ℕ) where
       P w
       → Sure (decOthers (number p) f)
       → Sure (decLt k (length (f .samples)))
-      → Sure (decMissed (w .plant) (getD (outputs w) k 0) (w .taken k) (ageBound (w .n) (w .need) (w .tM) (w .d)))
+      → Sure (decMissed (w .plant) (getD (outputs w) k 0) (w .taken k) (ageOf w))
       → TooWeak p P
   by-film held others there missed = (watch f, film-all-but p f others, held, film-wrong f k there missed)
 

@@ -12,11 +12,10 @@ use lib.Dec.{ltb, eqb}
 use borrow.Author.Tests.{eqb-true, eqb-false, ltb-true, ltb-false, not-true, not-false}
 use Rattle.trace.specs.Trace.{trace}
 use Rattle.confirm.specs.declared.Confirm.{Confirm}
-use Rattle.confirm.specs.Confirm.{fresh, held, confirmed, clauses}
+use Rattle.confirm.specs.Confirm.{held, confirmed, clauses}
 use Rattle.confirm.specs.Run.{steps, shownWord}
 use Rattle.confirm.proofs.Clauses.{byTests}
-use Rattle.sizing.specs.Sizing.{ageBound}
-use Rattle.plant.specs.Plant.{Watch, ShownBy, TrulyShown, outputs}
+use Rattle.plant.specs.Plant.{Watch, freshOf, ageOf, ShownBy, TrulyShown, outputs}
 use Rattle.plant.specs.Weaker.{Sufficient}
 use Rattle.plant.proofs.Words.{apart, apart-most}
 use Rattle.plant.proofs.Sights.{input, instant, Sight, Ordered, anchored, one-more, one-apart, not-old, start-sight, ordered, far-ordered}
@@ -83,7 +82,7 @@ module _ (w : Watch) (start : ℕ) (o : Sufficient w start) where
   near : (s : Confirm) (k : ℕ) → Tracks w s k → (h : Stale w start s k) → k ≤ h .q + w .n * w .need
   near s k tr h = omega (arith, mul-le-mul-right (w .need) (apart-most (w .n) (input w (h .q)) (input w k)))
 
-  fresh-enough : (s : Confirm) (k : ℕ) → k ≤ end → After w start s k → ShownBy (w .plant) (s .output) (instant w start k) (ageBound (w .n) (w .need) (w .tM) (w .d))
+  fresh-enough : (s : Confirm) (k : ℕ) → k ≤ end → After w start s k → ShownBy (w .plant) (s .output) (instant w start k) (ageOf w)
   fresh-enough s k l (tr, is-young y) = not-old w start o k k (s .output) (omega arith) l (omega arith) (young-sight s k l tr y)
   fresh-enough s k l (tr, is-early e) =
       not-old w start o k k (s .output) (omega arith) l (omega arith) (rw (e .output-is) (start-sight w start o k k (omega arith) l (e .soon)))
@@ -105,7 +104,7 @@ module _ (w : Watch) (start : ℕ) (o : Sufficient w start) where
       tracks-change = record {
         same-need = tr .same-need;
         last-input = refl;
-        waits = o .counted;
+        waits = omega (arith, o .counted);
         counted = omega arith;
         alike = λ j jk m. (let e : j ≡ suc k = omega arith in rw e);
       }
@@ -227,7 +226,7 @@ module _ (w : Watch) (start : ℕ) (o : Sufficient w start) where
       → ((j m : ℕ) → k + j ≡ m → j < length xs → getD xs j 0 ≡ getD (w .samples) m 0)
       → After w start s k
       → (j m : ℕ) → k + j ≡ m → j < length xs
-      → ShownBy (w .plant) (getD (map shownWord (steps s xs)) j 0) (w .taken m) (ageBound (w .n) (w .need) (w .tM) (w .d))
+      → ShownBy (w .plant) (getD (map shownWord (steps s xs)) j 0) (w .taken m) (ageOf w)
   unfolding trace
   onwards [] s k f same i j m e l = absurd (omega (arith, l))
   onwards (x ∷ xs) s k f same i zero m e l =
@@ -239,10 +238,10 @@ module _ (w : Watch) (start : ℕ) (o : Sufficient w start) where
 
   pub outputs-shown : TrulyShown w (outputs w)
   outputs-shown k l =
-      onwards (w .samples) (fresh (w .n) (w .need) (w .initial)) 0 (omega arith) (λ j m e l. (let q : j ≡ m = omega arith in rw q)) begins k k (omega arith) l
+      onwards (w .samples) (freshOf w) 0 (omega arith) (λ j m e l. (let q : j ≡ m = omega arith in rw q)) begins k k (omega arith) l
     where
-      begins : After w start (fresh (w .n) (w .need) (w .initial)) 0
+      begins : After w start (freshOf w) 0
       begins = (
-        record { same-need = refl; last-input = refl; waits = o .counted; counted = omega arith; alike = λ j jk h. (let e : j ≡ 0 = omega arith in rw e) },
+        record { same-need = refl; last-input = refl; waits = omega (arith, o .counted); counted = omega arith; alike = λ j jk h. (let e : j ≡ 0 = omega arith in rw e) },
         is-young (record { all = omega arith; output-is = refl }),
       )

@@ -9,8 +9,7 @@ use lib.ListN.{length, getD}
 use Rattle.rules.specs.Signals.{asWord}
 use Rattle.trace.specs.Trace.{trace}
 use Rattle.confirm.specs.Confirm.{clauses}
-use Rattle.sizing.specs.Sizing.{ageBound}
-use Rattle.plant.specs.Plant.{Watch, There, Observed, ShownBy, TrulyShown, outputs}
+use Rattle.plant.specs.Plant.{Watch, ageOf, There, Observed, ShownBy, TrulyShown, outputs}
 use Rattle.plant.specs.Film.{watch}
 use Rattle.plant.specs.Films.{slow}
 use Rattle.plant.specs.Premises.{TooShort}
@@ -25,8 +24,8 @@ slow-observed = film-observed slow tt
 -- at sample 8 the word that is shown was last shown by the plant 8 before, n·N·TM + D
 pub reached :
     let w = watch slow in
-    (h : ShownBy (w .plant) (getD (outputs w) 8 0) (w .taken 8) (ageBound (w .n) (w .need) (w .tM) (w .d)))
-    → h .moment + ageBound (w .n) (w .need) (w .tM) (w .d) ≡ w .taken 8
+    (h : ShownBy (w .plant) (getD (outputs w) 8 0) (w .taken 8) (ageOf w))
+    → h .moment + ageOf w ≡ w .taken 8
 unfolding decMissed everyBelow implied decLe ℕ-discrete Dec·not trace clauses
 reached h =
     dite (ℕ-discrete (h .moment + 8) 10) (λ e. e)
@@ -59,7 +58,7 @@ everywhere word (x ∷ xs) (suc k) l = everywhere word xs k (omega arith)
 -- fails at each sample before which the plant has not shown the initial word for longer than the age bound
 pub frozen-fails :
     (w : Watch) (k : ℕ) → There w k
-    → ((m : ℕ) → m ≤ w .taken k → w .taken k ≤ m + ageBound (w .n) (w .need) (w .tM) (w .d) → w .plant m ≢ w .initial)
+    → ((m : ℕ) → m ≤ w .taken k → w .taken k ≤ m + ageOf w → w .plant m ≢ w .initial)
     → TrulyShown w (frozen w) → ⊥
 frozen-fails w k l moved shown =
     let h = rw (everywhere (w .initial) (w .samples) k l) at (shown k l) in

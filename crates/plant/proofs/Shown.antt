@@ -1,5 +1,5 @@
 -- Demand 3: the premises give the weaker ones, and so every output is a word that the plant showed within the age bound.
-use Prim.Native.Nat.{ℕ, zero, suc, _+_, _*_, _≤_, _<_}
+use Prim.Native.Nat.{ℕ, zero, suc, _+_, _*_, _≤_}
 use native.Mathlib.Omega.{arith}
 use native.Mathlib.Decide.{decLt}
 use native.Mathlib.Nat.{add-suc, add-zero, suc-mul, zero-mul}
@@ -16,13 +16,19 @@ gaps w h (suc m) k l =
     let on : There w (suc (k + m)) = rw add-suc at l in
     rw (add-suc, suc-mul) (omega (arith, h (k + m) on, gaps w h m k (omega arith)))
 
+-- so N of them outlast D
+outlasting : (w : Watch) → Enough w → GapLeast w → (k : ℕ) → There w (k + w .need) → w .taken k + w .d ≤ w .taken (k + w .need)
+outlasting w e h k l = omega (arith, gaps w h (w .need) k l)
+
 some : (w : Watch) → Enough w → 1 ≤ w .need
-some w e = dite (decLt 0 (w .need)) (λ l. l) (λ n. let z : w .need ≡ 0 = omega arith in let h : w .d < 0 * w .tm = rw z at e in absurd (omega (arith, zero-mul (w .tm))))
+some w e =
+    dite (decLt 0 (w .need)) (λ l. l)
+    (λ none. let z : w .need ≡ 0 = omega arith in let nothing : w .need * w .tm ≡ 0 = rw z (zero-mul (w .tm)) in absurd (omega arith))
 
 pub sufficient : (w : Watch) → Observed w → Sufficient w (w .taken 0)
 sufficient w o = record {
   counted = some w (o .enough);
-  outlasts = λ k l. omega (arith, o .enough, gaps w (o .gap-least) (w .need) k l);
+  outlasts = outlasting w (o .enough) (o .gap-least);
   in-order = λ k l. omega (arith, o .gap-least k l);
   fits = o .fits;
   gap-most = o .gap-most;

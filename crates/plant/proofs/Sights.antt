@@ -9,11 +9,10 @@ use native.Mathlib.Nat.{suc-mul, zero-mul, one-mul, mul-le-mul-right}
 use lib.ListN.{length, getD}
 use Rattle.rules.specs.Bits.{bit}
 use Rattle.rules.proofs.Signals.{bit-small, word-small, word-bit}
-use Rattle.sizing.specs.Sizing.{ageBound, quietGap}
-use Rattle.plant.specs.Plant.{Watch, ShownBy}
+use Rattle.plant.specs.Plant.{Watch, gapOf, ageOf, ShownBy}
 use Rattle.plant.specs.Weaker.{Sufficient}
 use Rattle.plant.proofs.Words.{words-agree, apart, apart-grows}
-use Rattle.plant.proofs.Moves.{once, still}
+use Rattle.plant.proofs.Moves.{Turns, once, still}
 
 -- input k, its instant, and the moment at which its signal i was read
 abbrev pub input : Watch → ℕ → ℕ
@@ -69,7 +68,7 @@ module _ (w : Watch) (start : ℕ) (o : Sufficient w start) where
   span (suc m) q (suc zero) e l =
       let z : q ≡ 0 = omega arith in
       let y : m ≡ 0 = omega arith in
-      rw (z, y, one-mul) (o .start-recent)
+      rw (z, y, one-mul) (omega (arith, o .start-recent))
   span (suc m) q (suc (suc k)) e l = rw suc-mul (omega (arith, o .gap-most k l, span m q (suc k) (omega arith) (omega arith)))
 
   module _ (i : ℕ) (il : i < w .n) where
@@ -90,7 +89,10 @@ module _ (w : Watch) (start : ℕ) (o : Sufficient w start) where
 
     -- a signal moves at most once, and is still between alike moments, within the quiet gap
     abbrev gap : ℕ
-    gap = quietGap (w .n) (w .need) (w .tM) (w .d)
+    gap = gapOf w
+
+    quiet : (s s′ : ℕ) → s < s′ → Turns shown s → Turns shown s′ → s + gap ≤ s′
+    quiet s s′ l a b = omega (arith, o .quiet i s s′ il l a b)
 
     -- m gaps from input q to input k keep within the quiet gap
     within : (m q k : ℕ) → q + m ≡ k → k ≤ end → m ≤ w .n * w .need + 1 → reading w start i k ≤ reading w start i q + gap
@@ -106,7 +108,7 @@ module _ (w : Watch) (start : ℕ) (o : Sufficient w start) where
         (j k m : ℕ) → j ≤ k → k ≤ j + w .need → k ≤ end → input w j ≡ input w k → reading w start i j ≤ m → m ≤ reading w start i k
         → shown m ≡ bit i (input w k)
     still-signal j k m jk near l same a b =
-        still shown gap (λ s s′. o .quiet i s s′ il) (reading w start i j) m (reading w start i k) a b
+        still shown gap quiet (reading w start i j) m (reading w start i k) a b
         (within (k - j) j k (omega arith) l (few (k - j) (omega arith)))
         (sym (shows j (omega arith)) ∙ ap (bit i) same ∙ shows k l)
         ∙ sym (shows k l)
@@ -115,7 +117,7 @@ module _ (w : Watch) (start : ℕ) (o : Sufficient w start) where
         (q k : ℕ) → q ≤ k → k < end → k ≤ q + w .n * w .need → Ordered w start q k → Ordered w start k (suc k)
         → bit i (input w q) ≢ bit i (input w k) → bit i (input w k) ≢ bit i (input w (suc k)) → ⊥
     moved-once q k qk l near before after a b =
-        once shown gap (λ s s′. o .quiet i s s′ il) (reading w start i q) (reading w start i k) (reading w start i (suc k))
+        once shown gap quiet (reading w start i q) (reading w start i k) (reading w start i (suc k))
         (before i il) (after i il) (within (suc k - q) q (suc k) (omega arith) l (omega arith))
         (λ e. a (shows q (omega arith) ∙ e ∙ sym (shows k (omega arith))))
         (λ e. b (shows k (omega arith) ∙ e ∙ sym (shows (suc k) l)))
@@ -187,7 +189,7 @@ module _ (w : Watch) (start : ℕ) (o : Sufficient w start) where
   -- What was shown at input q was shown no later than input k, and n·N gaps and a delay before it at most.
   pub not-old :
       (q k word : ℕ) → q ≤ k → k ≤ end → k ≤ q + w .n * w .need → Sight w start q word
-      → ShownBy (w .plant) word (instant w start k) (ageBound (w .n) (w .need) (w .tM) (w .d))
+      → ShownBy (w .plant) word (instant w start k) (ageOf w)
   not-old q k word qk l near h =
       let short : k - q ≤ w .n * w .need = omega arith in
       record {
@@ -208,7 +210,7 @@ module _ (w : Watch) (start : ℕ) (o : Sufficient w start) where
   pub ordered : (q k : ℕ) → 1 ≤ q → q ≤ k → k ≤ end → Ordered w start q k
   ordered zero k some qk l i il = absurd (omega (arith, some))
   ordered (suc q) zero some qk l i il = absurd (omega (arith, qk))
-  ordered (suc q) (suc k) some qk l i il = climbs (w .read i) k (λ j m. o .forward i j il (omega arith)) q k (omega arith) (omega arith)
+  ordered (suc q) (suc k) some qk l i il = climbs (w .read i) k (λ j m. omega (arith, o .forward i j il (omega arith))) q k (omega arith) (omega arith)
 
   -- After the time D from the start on, nothing is read that is older than the start.
   pub far-ordered : (q k : ℕ) → q ≤ k → k ≤ end → start + w .d ≤ instant w start k → Ordered w start q k

@@ -2,9 +2,8 @@
 use Prim.Native.Nat.{ℕ}
 use mathlib.Core.Path.{_≡_}
 use mathlib.Core.List.{List}
-use Rattle.sizing.specs.Sizing.{ageBound, quietGap}
 use Rattle.sizing.specs.declared.Sizing.{Sizing}
-use Rattle.plant.specs.Plant.{Watch, Enough}
+use Rattle.plant.specs.Plant.{Watch, gapOf, ageOf, Enough}
 
 -- what follows, of a call's arguments, its result and its slices afterwards, from its contract as the source states it
 abbrev pub Means : {A Z E : Type 0} → (A → Z → E → Type 0) → (A → Z → E → Type 0) → Type 0
@@ -29,5 +28,5 @@ pub record SizedBy (w : Watch) (n tm tM d : ℕ) (z : Sizing) : Type 0 where
 -- what its numbers are: N·Tm > D, and the bounds of demand 3 are the ones returned
 pub record Bounds (w : Watch) (z : Sizing) : Type 0 where
   pub enough : Enough w
-  pub age-is : ageBound (w .n) (w .need) (w .tM) (w .d) ≡ z .age
-  pub quiet-is : quietGap (w .n) (w .need) (w .tM) (w .d) ≡ z .quiet
+  pub age-is : ageOf w ≡ z .age
+  pub quiet-is : gapOf w ≡ z .quiet

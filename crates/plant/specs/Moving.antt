@@ -6,8 +6,11 @@ use Rattle.sizing.specs.Sizing.{quietGap}
 use Rattle.plant.specs.Plant.{Watch}
 
 -- every signal moves at each multiple of the period, which is one more than the quiet gap
+abbrev pub period : ℕ → ℕ → ℕ → ℕ → ℕ
+period n need tM d = suc (quietGap n need tM d)
+
 abbrev pub turning : ℕ → ℕ → ℕ → ℕ
-turning n period s = asWord n (λ i. s / period % 2)
+turning n p s = asWord n (λ i. s / p % 2)
 
 -- a sample each Tm, from D on
 abbrev pub takenAt : ℕ → ℕ → ℕ → ℕ
@@ -19,7 +22,7 @@ readAt tm d i k = takenAt tm d k - min i d
 
 abbrev pub moving : ℕ → ℕ → ℕ → ℕ → ℕ → ℕ → Watch
 moving n need tm tM d length =
-    let period = suc (quietGap n need tM d) in
+    let p = period n need tM d in
     record {
       n = n;
       need = need;
@@ -27,8 +30,8 @@ moving n need tm tM d length =
       tM = tM;
       d = d;
       initial = 0;
-      plant = turning n period;
-      samples = asList length (λ k. asWord n (λ i. bit i (turning n period (readAt tm d i k))));
+      plant = turning n p;
+      samples = asList length (λ k. asWord n (λ i. bit i (turning n p (readAt tm d i k))));
       taken = takenAt tm d;
       read = readAt tm d;
     }

@@ -6,6 +6,7 @@ use mathlib.Core.List.{List, map}
 use lib.ListN.{length, getD}
 use Rattle.rules.specs.Bits.{bit}
 use Rattle.rules.specs.Signals.{asWord}
+use Rattle.confirm.specs.declared.Confirm.{Confirm}
 use Rattle.confirm.specs.Confirm.{fresh}
 use Rattle.confirm.specs.Run.{steps, shownWord}
 use Rattle.sizing.specs.Sizing.{ageBound, quietGap}
@@ -26,6 +27,13 @@ pub record Watch : Type 0 where
   pub taken : ℕ → ℕ
   -- signal i of sample k shows the plant as it was at the moment `read i k`
   pub read : ℕ → ℕ → ℕ
+
+-- its age bound and its quiet gap, as the sizing has them
+abbrev pub ageOf : Watch → ℕ
+ageOf w = ageBound (w .n) (w .need) (w .tM) (w .d)
+
+abbrev pub gapOf : Watch → ℕ
+gapOf w = quietGap (w .n) (w .need) (w .tM) (w .d)
 
 -- sample k is one of the trace
 abbrev pub There : Watch → ℕ → Type 0
@@ -69,18 +77,27 @@ Rests w = (s : ℕ) → s ≤ w .taken 0 → w .plant s ≡ w .initial
 
 -- two changes of one signal are more than the quiet gap apart
 abbrev pub Quiet : Watch → Type 0
-Quiet w = (i s s′ : ℕ) → i < w .n → s < s′ → Changes w i s → Changes w i s′ → s + quietGap (w .n) (w .need) (w .tM) (w .d) < s′
+Quiet w = (i s s′ : ℕ) → i < w .n → s < s′ → Changes w i s → Changes w i s′ → s + gapOf w < s′
 
--- the premises
+-- the premises of demand 3
 pub record Observed (w : Watch) : Type 0 where
+  -- the count: N·Tm > D
   pub enough : Enough w
+  -- tuples of n signals
   pub fits : Fits w
+  -- gaps of at least Tm
   pub gap-least : GapLeast w
+  -- and at most TM
   pub gap-most : GapMost w
+  -- samples of the plant
   pub formed : Formed w
+  -- readings at most D late
   pub late : Late w
+  -- that never step back
   pub forward : Forward w
+  -- the plant at rest at the initial word, the first sample included
   pub rests : Rests w
+  -- the quiet gap between two changes of one signal
   pub quiet : Quiet w
 
 -- the plant showed the word as a whole, at a moment no later than the instant and at most `age` before it
@@ -92,8 +109,11 @@ pub record ShownBy (plant : ℕ → ℕ) (word instant age : ℕ) : Type 0 where
 
 -- the conclusion, of one word for each sample: each was shown by the plant within the age bound, n·N·TM + D
 abbrev pub TrulyShown : Watch → List ℕ → Type 0
-TrulyShown w words = (k : ℕ) → There w k → ShownBy (w .plant) (getD words k 0) (w .taken k) (ageBound (w .n) (w .need) (w .tM) (w .d))
+TrulyShown w words = (k : ℕ) → There w k → ShownBy (w .plant) (getD words k 0) (w .taken k) (ageOf w)
 
 -- the words that confirmation shows, from a fresh state (demand 2)
+abbrev pub freshOf : Watch → Confirm
+freshOf w = fresh (w .n) (w .need) (w .initial)
+
 abbrev pub outputs : Watch → List ℕ
-outputs w = map shownWord (steps (fresh (w .n) (w .need) (w .initial)) (w .samples))
+outputs w = map shownWord (steps (freshOf w) (w .samples))

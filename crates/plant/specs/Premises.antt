@@ -3,8 +3,7 @@ use Prim.Native.Nat.{ℕ, suc, _+_, _*_, _^_, _≤_, _<_}
 use mathlib.Core.Path.{_≡_}
 use mathlib.Core.Logic.{_≢_}
 use lib.ListN.{getD}
-use Rattle.sizing.specs.Sizing.{quietGap}
-use Rattle.plant.specs.Plant.{Watch, There, Changes, Enough, Fits, GapLeast, GapMost, Formed, Late, Forward, Rests, Quiet, Observed, ShownBy, TrulyShown, outputs}
+use Rattle.plant.specs.Plant.{Watch, gapOf, There, Changes, Enough, Fits, GapLeast, GapMost, Formed, Late, Forward, Rests, Quiet, Observed, ShownBy, TrulyShown, outputs}
 
 pub data Premise : Type 0 where
   enough fits gap-least gap-most formed late forward rests quiet : Premise
@@ -34,7 +33,7 @@ Nearly formed w = Unit {0}
 Nearly late w = (i k : ℕ) → i < w .n → There w k → (w .read i k ≤ w .taken k) × (w .taken k ≤ w .read i k + w .d + 1)
 Nearly forward w = (i k : ℕ) → i < w .n → There w (suc k) → w .read i k ≤ w .read i (suc k) + 1
 Nearly rests w = (s : ℕ) → s < w .taken 0 → w .plant s ≡ w .initial
-Nearly quiet w = (i s s′ : ℕ) → i < w .n → s < s′ → Changes w i s → Changes w i s′ → s + quietGap (w .n) (w .need) (w .tM) (w .d) ≤ s′ + 1
+Nearly quiet w = (i s s′ : ℕ) → i < w .n → s < s′ → Changes w i s → Changes w i s′ → s + gapOf w ≤ s′ + 1
 
 -- P is too weak in place of a premise: in some watch all others hold and P does, and an output is no word that the plant showed
 -- within the age bound

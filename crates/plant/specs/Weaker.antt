@@ -1,8 +1,7 @@
 -- What demand 3's premises are needed for, and no more: weaker premises from which the same conclusion follows.
 use Prim.Native.Nat.{ℕ, suc, _+_, _≤_, _<_}
 use mathlib.Core.Path.{_≡_}
-use Rattle.sizing.specs.Sizing.{quietGap}
-use Rattle.plant.specs.Plant.{Watch, There, Changes, Fits, GapMost, Formed, Late, Forward}
+use Rattle.plant.specs.Plant.{Watch, gapOf, There, Changes, Fits, GapMost, Formed, Late, Forward}
 
 -- `start` is a moment at which the plant showed the initial word
 pub record Sufficient (w : Watch) (start : ℕ) : Type 0 where
@@ -21,4 +20,4 @@ pub record Sufficient (w : Watch) (start : ℕ) : Type 0 where
   pub start-before : start ≤ w .taken 0
   pub start-recent : w .taken 0 ≤ start + w .tM + w .d
   -- two changes of one signal are the quiet gap apart, or more
-  pub quiet : (i s s′ : ℕ) → i < w .n → s < s′ → Changes w i s → Changes w i s′ → s + quietGap (w .n) (w .need) (w .tM) (w .d) ≤ s′
+  pub quiet : (i s s′ : ℕ) → i < w .n → s < s′ → Changes w i s → Changes w i s′ → s + gapOf w ≤ s′
