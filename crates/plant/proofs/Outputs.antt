@@ -82,11 +82,11 @@ module _ (w : Watch) (start : ℕ) (o : Sufficient w start) where
   near : (s : Confirm) (k : ℕ) → Tracks w s k → (h : Stale w start s k) → k ≤ h .q + w .n * w .need
   near s k tr h = omega (arith, mul-le-mul-right (w .need) (apart-most (w .n) (input w (h .q)) (input w k)))
 
-  fresh-enough : (s : Confirm) (k : ℕ) → k ≤ end → After w start s k → ShownBy (w .plant) (s .output) (instant w start k) (ageOf w)
-  fresh-enough s k l (tr, is-young y) = not-old w start o k k (s .output) (omega arith) l (omega arith) (young-sight s k l tr y)
-  fresh-enough s k l (tr, is-early e) =
+  in-time : (s : Confirm) (k : ℕ) → k ≤ end → After w start s k → ShownBy (w .plant) (s .output) (instant w start k) (ageOf w)
+  in-time s k l (tr, is-young y) = not-old w start o k k (s .output) (omega arith) l (omega arith) (young-sight s k l tr y)
+  in-time s k l (tr, is-early e) =
       not-old w start o k k (s .output) (omega arith) l (omega arith) (rw (e .output-is) (start-sight w start o k k (omega arith) l (e .soon)))
-  fresh-enough s k l (tr, is-stale h) = not-old w start o (h .q) k (s .output) (h .past) l (near s k tr h) (h .sight)
+  in-time s k l (tr, is-stale h) = not-old w start o (h .q) k (s .output) (h .past) l (near s k tr h) (h .sight)
 
   -- the three clauses, on the next input
   module _ (s : Confirm) (k : ℕ) (l : k < end) (tr : Tracks w s k) where
@@ -231,7 +231,7 @@ module _ (w : Watch) (start : ℕ) (o : Sufficient w start) where
   onwards [] s k f same i j m e l = absurd (omega (arith, l))
   onwards (x ∷ xs) s k f same i zero m e l =
       let q : k ≡ m = omega arith in
-      rw (← q, shows-output s x) (fresh-enough (clauses s x .state) (suc k) (omega arith) (took s k x (omega arith) (same 0 k (omega arith) (omega arith)) i))
+      rw (← q, shows-output s x) (in-time (clauses s x .state) (suc k) (omega arith) (took s k x (omega arith) (same 0 k (omega arith) (omega arith)) i))
   onwards (x ∷ xs) s k f same i (suc j) m e l =
       onwards xs (clauses s x .state) (suc k) (omega arith) (λ j m e l. same (suc j) m (omega arith) (omega arith))
       (took s k x (omega arith) (same 0 k (omega arith) (omega arith)) i) j m (omega arith) (omega arith)

@@ -134,42 +134,37 @@ module _ (w : Watch) (start : ℕ) (o : Sufficient w start) where
   still-word j k m jk near l same between =
       words-agree (w .n) _ _ (o .fits m) (input-fits k l) (λ i il. still-signal i il j k m jk near l same (between i il .0) (between i il .1))
 
+  -- While at most D has passed since the start, what it shows can have been read.
+  pub start-sight : (q k : ℕ) → q ≤ k → k ≤ end → instant w start k ≤ start + w .d → Sight w start q (w .initial)
+  start-sight zero k qk l soon = record { moment = start; not-early = omega arith; no-later = omega arith; whole = o .starts }
+  start-sight (suc q) k qk l soon =
+      let upto = later (suc q) k qk l in
+      record { moment = start; not-early = omega arith; no-later = later 0 (suc q) (omega arith) (omega arith); whole = o .starts }
+
   -- An input that is like the one N before it, or like the initial word if there are not so many, was shown as a whole: at its
   -- earliest moment each signal was already, and was still, as it was read.
   pub anchored : (k : ℕ) → k ≤ end → input w (k - w .need) ≡ input w k → Sight w start k (input w k)
-  anchored zero l same = record { moment = start; not-early = omega arith; no-later = omega arith; whole = o .starts }
+  anchored zero l same = start-sight 0 0 (omega arith) l (omega arith)
   anchored (suc k) l same = dite (decLe (w .need) k) old young where
+    at-earliest : w .plant (w .taken k - w .d) ≡ input w (suc k) → Sight w start (suc k) (input w (suc k))
+    at-earliest e = record { moment = w .taken k - w .d; not-early = omega arith; no-later = omega arith; whole = e }
+
     old : w .need ≤ k → Sight w start (suc k) (input w (suc k))
     old h =
         let j : ℕ = k - w .need in
         let at-j : suc k - w .need ≡ suc j = omega arith in
         let at-k : j + w .need ≡ k = omega arith in
-        record {
-          moment = w .taken k - w .d;
-          not-early = omega arith;
-          no-later = omega arith;
-          whole =
-              still-word (suc j) (suc k) (w .taken k - w .d) (omega arith) (omega arith) l (rw at-j at same)
-              (λ i il. (omega (arith, o .late i j il (omega arith), rw at-k at (o .outlasts j (omega arith))), omega (arith, o .late i k il l)));
-        }
+        at-earliest
+        (still-word (suc j) (suc k) (w .taken k - w .d) (omega arith) (omega arith) l (rw at-j at same)
+        (λ i il. (omega (arith, o .late i j il (omega arith), rw at-k at (o .outlasts j (omega arith))), omega (arith, o .late i k il l))))
 
     young : (w .need ≤ k → ⊥) → Sight w start (suc k) (input w (suc k))
     young h =
         let none : suc k - w .need ≡ 0 = omega arith in
         let alike : w .initial ≡ input w (suc k) = rw none at same in
         dite (decLe start (w .taken k - w .d))
-        (λ a. record {
-          moment = w .taken k - w .d;
-          not-early = omega arith;
-          no-later = omega arith;
-          whole = still-word 0 (suc k) (w .taken k - w .d) (omega arith) (omega arith) l alike (λ i il. (omega arith, omega (arith, o .late i k il l)));
-        })
-        (λ a. record {
-          moment = start;
-          not-early = omega arith;
-          no-later = later 0 (suc k) (omega arith) l;
-          whole = o .starts ∙ alike;
-        })
+        (λ a. at-earliest (still-word 0 (suc k) (w .taken k - w .d) (omega arith) (omega arith) l alike (λ i il. (omega arith, omega (arith, o .late i k il l)))))
+        (λ a. rw (← alike) (start-sight (suc k) (suc k) (omega arith) l (omega arith)))
 
   -- A new input, n·N gaps after an old one or sooner, differs from it in one more signal, which makes room for N samples more.
   pub one-more :
@@ -198,13 +193,6 @@ module _ (w : Watch) (start : ℕ) (o : Sufficient w start) where
         recent = omega (arith, span (k - q) q k (omega arith) l, mul-le-mul-right (w .tM) short);
         whole = h .whole;
       }
-
-  -- While at most D has passed since the start, what it shows can have been read.
-  pub start-sight : (q k : ℕ) → q ≤ k → k ≤ end → instant w start k ≤ start + w .d → Sight w start q (w .initial)
-  start-sight zero k qk l soon = record { moment = start; not-early = omega arith; no-later = omega arith; whole = o .starts }
-  start-sight (suc q) k qk l soon =
-      let upto = later (suc q) k qk l in
-      record { moment = start; not-early = omega arith; no-later = later 0 (suc q) (omega arith) (omega arith); whole = o .starts }
 
   -- Samples are read in order.
   pub ordered : (q k : ℕ) → 1 ≤ q → q ≤ k → k ≤ end → Ordered w start q k
