@@ -1,5 +1,6 @@
 pub mod Words
 pub mod Moves
+pub mod Tracks
 pub mod Sights
 pub mod Outputs
 pub mod Premises

@@ -1,24 +1,21 @@
--- The initial word counts as a sample before the first, taken and read at the start: input 0 is the initial word, input k + 1 is sample k.
--- What weaker premises than demand 3's say of such inputs, as the induction over a trace needs it.
+-- What weaker premises than demand 3's say of a watch's inputs, as the induction over a trace needs it. The initial word, input 0, is
+-- taken and read at the start.
 use mathlib.Core.Path.{_≡_, refl, sym, ap, _∙_}
 use mathlib.Core.Logic.{_≢_, dite, Ne·symm}
 use Prim.Native.Nat.{ℕ, zero, suc, _+_, _-_, _*_, _^_, _≤_, _<_}
 use native.Mathlib.Omega.{arith}
 use native.Mathlib.Decide.{ℕ-discrete, decLe}
 use native.Mathlib.Nat.{suc-mul, zero-mul, one-mul, mul-le-mul-right}
-use lib.ListN.{length, getD}
+use lib.ListN.{length}
 use Rattle.rules.specs.Bits.{bit}
 use Rattle.rules.proofs.Signals.{bit-small, word-small, word-bit}
 use Rattle.plant.specs.Plant.{Watch, gapOf, ageOf, ShownBy}
 use Rattle.plant.specs.Weaker.{Sufficient}
 use Rattle.plant.proofs.Words.{words-agree, apart, apart-grows}
+use Rattle.plant.proofs.Tracks.{input}
 use Rattle.plant.proofs.Moves.{Turns, once, still}
 
--- input k, its instant, and the moment at which its signal i was read
-abbrev pub input : Watch → ℕ → ℕ
-input w zero = w .initial
-input w (suc k) = getD (w .samples) k 0
-
+-- the instant of input k, and the moment at which its signal i was read
 abbrev pub instant : Watch → ℕ → ℕ → ℕ
 instant w start zero = start
 instant w start (suc k) = w .taken k

@@ -1,0 +1,120 @@
+-- What a state of confirmation says of a watch's inputs, and how to follow a property of states through the run.
+use mathlib.Core.Path.{_≡_, refl, sym, _∙_}
+use mathlib.Core.Logic.{_≢_, dite}
+use mathlib.Core.List.{List, [], _∷_, map}
+use mathlib.Core.Bool.{Bool, true, false, not}
+use Prim.Native.Nat.{ℕ, zero, suc, _+_, _-_, _≤_, _<_}
+use native.Mathlib.Omega.{arith}
+use native.Mathlib.Decide.{ℕ-discrete}
+use lib.ListN.{length, getD}
+use lib.Dec.{ltb, eqb}
+use borrow.Author.Tests.{eqb-true, eqb-false, ltb-true, ltb-false, not-true, not-false}
+use Rattle.trace.specs.Trace.{trace}
+use Rattle.confirm.specs.declared.Confirm.{Confirm}
+use Rattle.confirm.specs.Confirm.{held, confirmed, clauses}
+use Rattle.confirm.specs.Run.{steps, shownWord}
+use Rattle.confirm.proofs.Clauses.{byTests}
+use Rattle.plant.specs.Plant.{Watch, freshOf, There, outputs}
+
+-- The initial word counts as a sample before the first: input 0 is the initial word, input k + 1 is sample k.
+abbrev pub input : Watch → ℕ → ℕ
+input w zero = w .initial
+input w (suc k) = getD (w .samples) k 0
+
+-- a state after input k: the last inputs are alike, `count` of them before input k
+pub record Tracks (w : Watch) (s : Confirm) (k : ℕ) : Type 0 where
+  pub same-need : s .need ≡ w .need
+  pub last-input : s .input ≡ input w k
+  pub waits : suc (s .count) ≤ w .need
+  pub counted : s .count ≤ k
+  pub alike : (j : ℕ) → j ≤ k → k ≤ j + s .count → input w j ≡ input w k
+
+module _ (w : Watch) (some : 1 ≤ w .need) where
+  pub tracks-fresh : Tracks w (freshOf w) 0
+  tracks-fresh = record {
+    same-need = refl;
+    last-input = refl;
+    waits = omega arith;
+    counted = omega arith;
+    alike = λ j jk h. (let e : j ≡ 0 = omega arith in rw e);
+  }
+
+  module _ (s : Confirm) (k : ℕ) (tr : Tracks w s k) where
+    abbrev next : ℕ
+    next = input w (suc k)
+
+    -- the next input by the three clauses, each with what it knows
+    pub by-clause :
+        (Q : Confirm → Type 0)
+        → (next ≢ input w k → Q (held s next 0 .state))
+        → (next ≡ input w k → s .count < w .need - 1 → Q (held s next (s .count + 1) .state))
+        → (next ≡ input w k → w .need - 1 ≤ s .count → Q (confirmed s next .state))
+        → Q (clauses s next .state)
+    unfolding clauses
+    by-clause Q changed counting confirming = go (not (eqb next (s .input))) (ltb (s .count) (s .need - 1)) refl refl where
+      go : (p r : Bool) → not (eqb next (s .input)) ≡ p → ltb (s .count) (s .need - 1) ≡ r → Q (byTests s next p r .state)
+      go true r a b = changed (λ e. eqb-false next (s .input) (not-true _ a) (e ∙ sym (tr .last-input)))
+      go false true a b = counting (eqb-true next (s .input) (not-false _ a) ∙ tr .last-input) (rw (tr .same-need) at (ltb-true (s .count) (s .need - 1) b))
+      go false false a b = confirming (eqb-true next (s .input) (not-false _ a) ∙ tr .last-input) (rw (tr .same-need) at (ltb-false (s .count) (s .need - 1) b))
+
+    -- a run of alike inputs goes on
+    pub alike-on : next ≡ input w k → (j : ℕ) → j ≤ suc k → k ≤ j + s .count → input w j ≡ next
+    alike-on e j jk m = dite (ℕ-discrete j (suc k)) (λ q. rw q) (λ d. tr .alike j (omega arith) m ∙ sym e)
+
+    pub tracks-next : Tracks w (clauses s next .state) (suc k)
+    tracks-next =
+        by-clause (λ z. Tracks w z (suc k))
+        (λ d. record {
+          same-need = tr .same-need;
+          last-input = refl;
+          waits = omega arith;
+          counted = omega arith;
+          alike = λ j jk m. (let e : j ≡ suc k = omega arith in rw e);
+        })
+        (λ e m. record {
+          same-need = tr .same-need;
+          last-input = refl;
+          waits = omega arith;
+          counted = omega (arith, tr .counted);
+          alike = λ j jk h. alike-on e j jk (omega arith);
+        })
+        (λ e m. record {
+          same-need = tr .same-need;
+          last-input = refl;
+          waits = tr .waits;
+          counted = omega (arith, tr .counted);
+          alike = λ j jk h. alike-on e j jk (omega arith);
+        })
+
+-- what is shown is what is stored as the output
+shows-output : (s : Confirm) (x : ℕ) → shownWord (clauses s x) ≡ clauses s x .state .output
+unfolding clauses
+shows-output s x = go (not (eqb x (s .input))) (ltb (s .count) (s .need - 1)) where
+  go : (p r : Bool) → shownWord (byTests s x p r) ≡ byTests s x p r .state .output
+  go true r = refl
+  go false true = refl
+  go false false = refl
+
+-- A property of the states after each input holds of some state that has the output shown at each sample.
+module _ (w : Watch) (P : Confirm → ℕ → Type 0) (step : (s : Confirm) (k : ℕ) → k < length (w .samples) → P s k → P (clauses s (input w (suc k)) .state) (suc k)) where
+  took : (s : Confirm) (k x : ℕ) → k < length (w .samples) → x ≡ input w (suc k) → P s k → P (clauses s x .state) (suc k)
+  took s k x l e i = rw e (step s k l i)
+
+  -- the rest of the trace, from a state after input k
+  onwards :
+      (xs : List ℕ) (s : Confirm) (k : ℕ) → k + length xs ≡ length (w .samples)
+      → ((j m : ℕ) → k + j ≡ m → j < length xs → getD xs j 0 ≡ getD (w .samples) m 0)
+      → P s k
+      → (j m : ℕ) → k + j ≡ m → j < length xs
+      → (z : Confirm) × P z (suc m) × (getD (map shownWord (steps s xs)) j 0 ≡ z .output)
+  unfolding trace
+  onwards [] s k f same i j m e l = absurd (omega (arith, l))
+  onwards (x ∷ xs) s k f same i zero m e l =
+      let q : k ≡ m = omega arith in
+      rw (← q) (clauses s x .state, took s k x (omega arith) (same 0 k (omega arith) (omega arith)) i, shows-output s x)
+  onwards (x ∷ xs) s k f same i (suc j) m e l =
+      onwards xs (clauses s x .state) (suc k) (omega arith) (λ j m e l. same (suc j) m (omega arith) (omega arith))
+      (took s k x (omega arith) (same 0 k (omega arith) (omega arith)) i) j m (omega arith) (omega arith)
+
+  pub along : P (freshOf w) 0 → (k : ℕ) → There w k → (z : Confirm) × P z (suc k) × (getD (outputs w) k 0 ≡ z .output)
+  along begins k l = onwards (w .samples) (freshOf w) 0 (omega arith) (λ j m e l. (let q : j ≡ m = omega arith in rw q)) begins k k (omega arith) l
