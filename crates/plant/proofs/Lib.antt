@@ -12,3 +12,4 @@ pub mod Films
 pub mod Needed
 pub mod Reached
 pub mod Moving
+pub mod Stairs

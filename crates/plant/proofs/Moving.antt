@@ -1,26 +1,21 @@
 -- The premises of demand 3 can be met, for every n, N, Tm, TM, D and every length of trace, by a plant all of whose signals go on moving.
 use mathlib.Core.Path.{_≡_, refl, sym, ap, _∙_}
 use mathlib.Core.Logic.{_≢_, dite}
-use mathlib.Core.List.{[], _∷_, append-nil}
+use mathlib.Core.List.{[], _∷_}
 use Prim.Native.Nat.{ℕ, suc, _+_, _-_, _*_, _/_, _%_, _≤_, _<_}
 use native.Mathlib.Omega.{arith}
 use native.Mathlib.Decide.{decLt}
 use native.Mathlib.Nat.{suc-mul, mul-one, mul-le-mul-left, mul-le-mul-right, mod-lt, div-eq-of-lt, div-eq-of-lt-le, div-mul-le-self, lt-div-mul-add, lt-of-mul-lt-mul-right}
 use native.Mathlib.Numerals.{add-one}
 use lib.Dec.{lit<}
-use lib.ListN.{getD}
-use lib.Seq.{drop-nil}
 use Rattle.rules.specs.Bits.{bit}
 use Rattle.rules.specs.Signals.{asWord, asList}
-use Rattle.rules.proofs.Signals.{word-small, word-bit, word-zero, list-length, place-below}
+use Rattle.rules.proofs.Signals.{word-small, word-bit, word-zero, list-length}
 use Rattle.trace.specs.Trace.{trace}
 use Rattle.confirm.specs.Confirm.{clauses}
 use Rattle.plant.specs.Plant.{Changes, Observed, outputs}
 use Rattle.plant.specs.Moving.{period, turning, moving}
-
--- place k of a list that is put together
-list-at : (f : ℕ → ℕ) (m k : ℕ) → k < m → getD (asList m f) k 0 ≡ f k
-list-at f m k l = rw (drop-nil, append-nil) at (place-below f [] m k l)
+use Rattle.plant.proofs.Words.{list-at}
 
 -- a quotient that changes has reached a multiple
 module _ (p : ℕ) (some : 0 < p) where

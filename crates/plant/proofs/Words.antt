@@ -1,16 +1,21 @@
 -- A tuple of n signals is known by its signals; in how many of them two words differ.
 use mathlib.Core.Path.{_≡_, sym, _∙_, ap}
 use mathlib.Core.Logic.{_≢_, dite}
+use mathlib.Core.List.{[], append-nil}
 use Prim.Native.Nat.{ℕ, zero, suc, _+_, _*_, _/_, _%_, _^_, _≤_, _<_}
 use native.Mathlib.Omega.{arith}
 use native.Mathlib.Decide.{ℕ-discrete, decLt}
 use native.Mathlib.Nat.{div-one, pow-suc}
 use native.Mathlib.Numerals.{one-add}
 use lib.Dec.{eqb}
+use lib.ListN.{getD}
 use lib.Pow.{shr-shr}
+use lib.Seq.{drop-nil}
 use borrow.Author.Tests.{eq-eqb, ne-eqb}
 use Rattle.rules.specs.Bits.{bit}
 use Rattle.rules.specs.Choose.{if_then_else_}
+use Rattle.rules.specs.Signals.{asList}
+use Rattle.rules.proofs.Signals.{place-below}
 
 -- signal i + 1 is signal i of the word's other signals
 next-signal : (i w : ℕ) → bit (suc i) w ≡ bit i (w / 2)
@@ -105,3 +110,7 @@ apart-grows n u v w lv lw once d =
 
     after : ℕ → ℕ
     after i = unlike (bit i u) (bit i w)
+
+-- place k of a list that is put together
+pub list-at : (f : ℕ → ℕ) (m k : ℕ) → k < m → getD (asList m f) k 0 ≡ f k
+list-at f m k l = rw (drop-nil, append-nil) at (place-below f [] m k l)

@@ -5,4 +5,5 @@ pub mod Films
 pub mod Moving
 pub mod Plant
 pub mod Premises
+pub mod Stairs
 pub mod Weaker
