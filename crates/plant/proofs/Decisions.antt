@@ -43,6 +43,7 @@ unfolding next
 everyBelow zero d = yes (λ k l. absurd (omega (arith, l)))
 everyBelow (suc m) d = next m (everyBelow m d) (d m)
 
+-- the same said otherwise
 unfoldable mapped : {P Q : Type 0} → (P → Q) → (Q → P) → Dec P → Dec Q
 mapped f g (yes p) = yes (f p)
 mapped f g (no n) = no (λ q. n (g q))

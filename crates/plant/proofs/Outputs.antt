@@ -76,6 +76,20 @@ module _ (w : Watch) (start : ℕ) (o : Sufficient w start) where
     abbrev Soon : Type 0
     Soon = instant w start (suc k) ≤ start + w .d
 
+    -- an output that is held stays as it was seen
+    stays-stale :
+        (h : Stale w start s k) (count : ℕ)
+        → suc k + w .need ≤ h .q + apart (w .n) (input w (h .q)) next * w .need + suc count
+        → Known w start (held s next count .state) (suc k)
+    stays-stale h count moved = is-stale (record {
+      q = h .q;
+      past = omega (arith, h .past);
+      going = omega arith;
+      sight = h .sight;
+      in-order = λ i il. omega (arith, h .in-order i il, ordered w start o k (suc k) (h .going) (omega arith) l i il);
+      moved = moved;
+    })
+
     module _ (d : next ≢ input w k) where
       abbrev changing : Confirm
       changing = held s next 0 .state
@@ -102,15 +116,7 @@ module _ (w : Watch) (start : ℕ) (o : Sufficient w start) where
       changed (is-young y) = not-confirmed (y .output-is) (young-sight s k (omega arith) tr y)
       changed (is-early e) = not-confirmed (e .output-is) (rw (e .output-is) (start-sight w start o k k (omega arith) (omega arith) (e .soon)))
       changed (is-stale h) =
-          let after = ordered w start o k (suc k) (h .going) (omega arith) l in
-          is-stale (record {
-            q = h .q;
-            past = omega (arith, h .past);
-            going = omega arith;
-            sight = h .sight;
-            in-order = λ i il. omega (arith, h .in-order i il, after i il);
-            moved = omega (arith, h .moved, tr .waits, one-more w start o (h .q) k (h .past) l (near s k tr h) (h .in-order) after d);
-          })
+          stays-stale h 0 (omega (arith, h .moved, tr .waits, one-more w start o (h .q) k (h .past) l (near s k tr h) (h .in-order) (ordered w start o k (suc k) (h .going) (omega arith) l) d))
 
     module _ (e : next ≡ input w k) where
       abbrev counting : Confirm
@@ -137,16 +143,7 @@ module _ (w : Watch) (start : ℕ) (o : Sufficient w start) where
           dite (decLe (instant w start (suc k)) (start + w .d))
           (λ soon. is-early (record { q = h .q; ran = omega (arith, h .ran); differs = λ p. h .differs (p ∙ e); soon = soon; output-is = h .output-is }))
           (outlasts h)
-      counted (is-stale h) =
-          let after = ordered w start o k (suc k) (h .going) (omega arith) l in
-          is-stale (record {
-            q = h .q;
-            past = omega (arith, h .past);
-            going = omega arith;
-            sight = h .sight;
-            in-order = λ i il. omega (arith, h .in-order i il, after i il);
-            moved = rw e (omega (arith, h .moved));
-          })
+      counted (is-stale h) = stays-stale h (s .count + 1) (rw e (omega (arith, h .moved)))
 
       confirming : w .need - 1 ≤ s .count → Known w start (confirmed s next .state) (suc k)
       confirming m = is-stale (record {

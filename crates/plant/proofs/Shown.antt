@@ -1,8 +1,8 @@
 -- Demand 3: the premises give the weaker ones, and so every output is a word that the plant showed within the age bound.
-use Prim.Native.Nat.{ℕ, zero, suc, _+_, _*_, _≤_}
+use Prim.Native.Nat.{ℕ, zero, suc, _+_, _*_, _≤_, _<_}
 use native.Mathlib.Omega.{arith}
 use native.Mathlib.Decide.{decLt}
-use native.Mathlib.Nat.{add-suc, add-zero, suc-mul, zero-mul}
+use native.Mathlib.Nat.{add-suc, add-zero, suc-mul, zero-mul, mul-zero}
 use mathlib.Core.Path.{_≡_}
 use mathlib.Core.Logic.{dite}
 use Rattle.plant.specs.Plant.{Watch, There, Enough, GapLeast, Observed, TrulyShown, outputs}
@@ -20,14 +20,16 @@ gaps w h (suc m) k l =
 outlasting : (w : Watch) → Enough w → GapLeast w → (k : ℕ) → There w (k + w .need) → w .taken k + w .d ≤ w .taken (k + w .need)
 outlasting w e h k l = omega (arith, gaps w h (w .need) k l)
 
-some : (w : Watch) → Enough w → 1 ≤ w .need
-some w e =
-    dite (decLt 0 (w .need)) (λ l. l)
-    (λ none. let z : w .need ≡ 0 = omega arith in let nothing : w .need * w .tm ≡ 0 = rw z (zero-mul (w .tm)) in absurd (omega arith))
+-- a product that exceeds a number has no factor 0
+pub factors : (a b d : ℕ) → d < a * b → (1 ≤ a) × (1 ≤ b)
+factors a b d l = (
+  dite (decLt 0 a) (λ h. h) (λ none. let z : a ≡ 0 = omega arith in let nothing : a * b ≡ 0 = rw z (zero-mul b) in absurd (omega arith)),
+  dite (decLt 0 b) (λ h. h) (λ none. let z : b ≡ 0 = omega arith in let nothing : a * b ≡ 0 = rw z (mul-zero a) in absurd (omega arith)),
+)
 
 pub sufficient : (w : Watch) → Observed w → Sufficient w (w .taken 0)
 sufficient w o = record {
-  counted = some w (o .enough);
+  counted = factors (w .need) (w .tm) (w .d) (omega (arith, o .enough)) .0;
   outlasts = outlasting w (o .enough) (o .gap-least);
   in-order = λ k l. omega (arith, o .gap-least k l);
   fits = o .fits;

@@ -3,8 +3,8 @@ use mathlib.Core.Path.{_≡_, refl, sym, ap, _∙_}
 use mathlib.Core.Logic.{_≢_, dite}
 use Prim.Native.Nat.{ℕ, suc, _+_, _-_, _*_, _/_, _%_, _≤_, _<_}
 use native.Mathlib.Omega.{arith}
-use native.Mathlib.Decide.{decLe, decLt}
-use native.Mathlib.Nat.{suc-mul, zero-mul, mul-zero, add-mul, mul-one, mul-le-mul-left, mul-le-mul-right, div-mul-le-self, lt-div-mul-add, div-lt-iff-lt-mul, div-eq-of-lt}
+use native.Mathlib.Decide.{decLe}
+use native.Mathlib.Nat.{suc-mul, add-mul, mul-one, mul-le-mul-left, mul-le-mul-right, div-mul-le-self, lt-div-mul-add, div-lt-iff-lt-mul, div-eq-of-lt}
 use lib.ListN.{getD}
 use lib.Pow.{pow-pos}
 use borrow.Author.Tests.{le-leb, lt-leb}
@@ -16,6 +16,7 @@ use Rattle.plant.specs.Plant.{Watch, ageOf, There, Changes, Formed, Obse
 use Rattle.plant.specs.Stairs.{raised, rise, rising, oldest, stairs}
 use Rattle.plant.specs.Edges.{paperAge}
 use Rattle.plant.proofs.Words.{list-at}
+use Rattle.plant.proofs.Shown.{factors}
 use Rattle.plant.proofs.Tracks.{input, Tracks, tracks-fresh, by-clause, alike-on, tracks-next, along}
 
 raised-on : (r s : ℕ) → r ≤ s → raised r s ≡ 1
@@ -44,10 +45,10 @@ module _ (n need tm tM d : ℕ) (gaps : tm ≤ tM) (enough : d < need * tm) wher
   at i = rise need tM d i
 
   some-gap : 1 ≤ tM
-  some-gap = dite (decLt 0 tm) (λ l. omega arith) (λ m. let z : tm ≡ 0 = omega arith in let nothing : need * tm ≡ 0 = rw z (mul-zero need) in absurd (omega arith))
+  some-gap = omega (arith, factors need tm d enough)
 
   some-count : 1 ≤ need
-  some-count = dite (decLt 0 need) (λ l. l) (λ m. let z : need ≡ 0 = omega arith in let nothing : need * tm ≡ 0 = rw z (zero-mul tm) in absurd (omega arith))
+  some-count = factors need tm d enough .0
 
   -- a moment is read before signal i rises where its sample is no later than D + i·N, and after that otherwise
   not-yet : (i k : ℕ) → k ≤ d + i * need → k * tM < at i
@@ -63,7 +64,7 @@ module _ (n need tm tM d : ℕ) (gaps : tm ≤ tM) (enough : d < need * tm) wher
   all-down : (s : ℕ) → s < d * tM + 1 → rising n need tM d s ≡ 0
   all-down s l =
       word-zero (λ j. raised (at j) s) (λ j. raised-small (at j) s) n .1
-      (λ i il. raised-off (at i) s (omega (arith, mul-le-mul-right tM (let h : d ≤ d + i * need = omega arith in h))))
+      (λ i il. raised-off (at i) s (omega (arith, not-yet i d (omega arith))))
 
   formed : Formed w
   formed k l = list-at _ (suc (oldest n need d)) k (rw (list-length _ (suc (oldest n need d))) at l)
