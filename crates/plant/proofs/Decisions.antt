@@ -11,7 +11,7 @@ use Rattle.sizing.specs.Sizing.{quietGap}
 use Rattle.plant.specs.Plant.{Watch, gapOf, There, Changes}
 use Rattle.plant.specs.Film.{Film, last, watch}
 use Rattle.plant.specs.Premises.{Premise, enough, fits, gap-least, gap-most, formed, late, forward, rests, quiet, Holds, Nearly}
-use Rattle.plant.specs.Edges.{QuietWithoutDelay}
+use Rattle.plant.specs.Edges.{QuietWithoutDelay, NotLate}
 use Rattle.plant.proofs.Premises.{premises}
 
 -- what a decision has decided
@@ -120,6 +120,10 @@ decNearly quiet f = everyChange f (λ s s′. decLe (s + gap f) (s′ + 1))
 unfoldable pub decQuietWithoutDelay : (f : Film) → Dec (QuietWithoutDelay (watch f))
 unfolding everyChange
 decQuietWithoutDelay f = everyChange f (λ s s′. decLt (s + quietGap (f .n) (f .need) (f .tM) 0) s′)
+
+unfoldable pub decNotLate : (f : Film) → Dec (NotLate (watch f))
+unfolding everyReading
+decNotLate f = everyReading f (λ i k. decLe (watch f .taken k) (watch f .read i k + f .d))
 
 -- all premises, or all but the one with that number
 unfoldable pub decOthers : (skipped : ℕ) (f : Film) → Dec ((k : ℕ) → k < length premises → k ≢ skipped → Holds (getD premises k enough) (watch f))

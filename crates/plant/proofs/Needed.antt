@@ -10,11 +10,11 @@ use Rattle.trace.specs.Trace.{trace}
 use Rattle.confirm.specs.Confirm.{clauses}
 use Rattle.plant.specs.Plant.{Watch, ageOf, outputs}
 use Rattle.plant.specs.Film.{Film, watch}
-use Rattle.plant.specs.Films.{breaks, lateStart, uncounted}
+use Rattle.plant.specs.Films.{breaks, ahead, lateStart, uncounted}
 use Rattle.plant.specs.Premises.{Premise, enough, fits, gap-least, gap-most, formed, late, forward, rests, quiet, Nearly, TooWeak}
-use Rattle.plant.specs.Edges.{NoCount, LateStart, CountOneLess, QuietWithoutDelay}
+use Rattle.plant.specs.Edges.{NotLate, NoCount, LateStart, CountOneLess, QuietWithoutDelay}
 use Rattle.plant.proofs.Premises.{number}
-use Rattle.plant.proofs.Decisions.{Sure, surely, implied, everyBelow, decide, decNearly, decQuietWithoutDelay, decOthers, decMissed}
+use Rattle.plant.proofs.Decisions.{Sure, surely, implied, everyBelow, decide, decNearly, decQuietWithoutDelay, decNotLate, decOthers, decMissed}
 use Rattle.plant.proofs.Films.{film-all-but, film-wrong}
 
 module _ (p : Premise) (P : Watch → Type 0) (f : Film) (k : ℕ) where
@@ -41,6 +41,11 @@ needed late = by-film late (Nearly late) (breaks late) 9 (nearly late tt) tt tt 
 needed forward = by-film forward (Nearly forward) (breaks forward) 9 (nearly forward tt) tt tt tt
 needed rests = by-film rests (Nearly rests) (breaks rests) 0 (nearly rests tt) tt tt tt
 needed quiet = by-film quiet (Nearly quiet) (breaks quiet) 9 (nearly quiet tt) tt tt tt
+
+-- nor is the other half of `late`
+pub ahead-needed : TooWeak late NotLate
+unfolding decNotLate decOthers decMissed decide everyBelow implied decLt decLe ℕ-discrete Dec·and Dec·not asWord trace clauses
+ahead-needed = by-film late NotLate ahead 2 (surely (decNotLate ahead) tt) tt tt tt
 
 -- the weaker premises end there too: one instant earlier is too early for the start, and N 0 does not do
 pub start-needed : TooWeak rests LateStart

@@ -2,7 +2,7 @@
 use Prim.Native.Nat.{ℕ, _+_, _-_, _*_, _≤_, _<_}
 use mathlib.Core.Path.{_≡_}
 use Rattle.sizing.specs.Sizing.{ageBound, quietGap}
-use Rattle.plant.specs.Plant.{Watch, Changes}
+use Rattle.plant.specs.Plant.{Watch, There, Changes}
 
 -- document 000's age bound, (n·N+1)·T; the age bound without D; with one run of N samples fewer
 abbrev pub paperAge : Watch → ℕ
@@ -17,6 +17,10 @@ oneRunFewer w = ageBound (w .n - 1) (w .need) (w .tM) (w .d)
 -- the quiet gap without D
 abbrev pub QuietWithoutDelay : Watch → Type 0
 QuietWithoutDelay w = (i s s′ : ℕ) → i < w .n → s < s′ → Changes w i s → Changes w i s′ → s + quietGap (w .n) (w .need) (w .tM) 0 < s′
+
+-- at most D late, and as far ahead as one likes
+abbrev pub NotLate : Watch → Type 0
+NotLate w = (i k : ℕ) → i < w .n → There w k → w .taken k ≤ w .read i k + w .d
 
 -- N·Tm + Tm > D
 abbrev pub CountOneLess : Watch → Type 0

@@ -80,6 +80,10 @@ breaks quiet = two
     (2 ∷ 3 ∷ 4 ∷ 5 ∷ 6 ∷ 7 ∷ 8 ∷ 9 ∷ 10 ∷ 11 ∷ [])
     ((0 ∷ 1 ∷ 2 ∷ 3 ∷ 4 ∷ 5 ∷ 6 ∷ 7 ∷ 8 ∷ 11 ∷ []) ∷ (0 ∷ 1 ∷ 2 ∷ 3 ∷ 4 ∷ 5 ∷ 6 ∷ 7 ∷ 8 ∷ 9 ∷ []) ∷ [])
 
+-- Signal 0 is read ahead, at 5, where it moves. 1 is confirmed at 2.
+abbrev pub ahead : Film
+ahead = one 0 (0 ∷ 0 ∷ 0 ∷ 0 ∷ 0 ∷ 1 ∷ []) (0 ∷ 1 ∷ 1 ∷ []) (0 ∷ 1 ∷ 2 ∷ []) (0 ∷ 5 ∷ 5 ∷ [])
+
 -- The weaker premises have two edges more. The plant showed the initial word last 3 before the first sample, TM + D and one more: 0
 -- is held for 4, and the age bound is 3.
 abbrev pub lateStart : Film
