@@ -1,4 +1,4 @@
--- A tuple of n signals is known by its signals; in how many of them two words differ.
+-- A tuple of n signals is known by its signals; in how many of them two words differ; and what stands in a list put together.
 use mathlib.Core.Path.{_≡_, sym, _∙_, ap}
 use mathlib.Core.Logic.{_≢_, dite}
 use mathlib.Core.List.{[], append-nil}
