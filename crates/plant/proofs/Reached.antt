@@ -2,9 +2,10 @@
 use mathlib.Core.Path.{_≡_, refl}
 use mathlib.Core.Logic.{_≢_, dite, Dec·and, Dec·not}
 use mathlib.Core.List.{List, [], _∷_, map}
-use Prim.Native.Nat.{ℕ, zero, suc, _+_, _≤_, _<_}
+use Prim.Native.Nat.{ℕ, zero, suc, _+_, _*_, _≤_, _<_}
 use native.Mathlib.Omega.{arith}
 use native.Mathlib.Decide.{ℕ-discrete, decLe, decLt}
+use native.Mathlib.Nat.{add-mul, one-mul}
 use lib.ListN.{length, getD}
 use Rattle.rules.specs.Signals.{asWord}
 use Rattle.trace.specs.Trace.{trace}
@@ -15,6 +16,7 @@ use Rattle.plant.specs.Films.{slow}
 use Rattle.plant.specs.Premises.{TooShort}
 use Rattle.plant.specs.Edges.{paperAge, ageWithoutDelay, oneRunFewer}
 use Rattle.plant.proofs.Decisions.{implied, everyBelow, decide, decOthers, decMissed}
+use Rattle.plant.proofs.Shown.{truly-shown, longer}
 use Rattle.plant.proofs.Films.{film-observed, not-shown}
 
 pub slow-observed : Observed (watch slow)
@@ -34,11 +36,15 @@ reached h =
 
 -- so each age below 8 is too short there
 too-short : (age : Watch → ℕ) → age (watch slow) < 8 → TooShort age
-too-short age l = (watch slow, slow-observed, λ shown. let h = shown 8 (omega arith) in absurd (omega (arith, reached (record { moment = h .moment; no-later = h .no-later; recent = omega arith; whole = h .whole }))))
+too-short age l = (watch slow, slow-observed, λ shown. let h = shown 8 (omega arith) in absurd (omega (arith, h .recent, reached (longer (omega arith) h))))
 
 -- document 000's, where D is above TM, and the ages of the edits in must-fail/
 pub paper-exceeded : TooShort paperAge
 paper-exceeded = too-short paperAge (omega arith)
+
+-- (where D is at most TM, document 000's is right)
+pub paper-holds : (w : Watch) → Observed w → w .d ≤ w .tM → (k : ℕ) → There w k → ShownBy (w .plant) (getD (outputs w) k 0) (w .taken k) (paperAge w)
+paper-holds w o small k l = longer (omega (arith, add-mul (w .n * w .need) 1 (w .tM), one-mul (w .tM))) (truly-shown w o k l)
 
 pub age-without-delay : TooShort ageWithoutDelay
 age-without-delay = too-short ageWithoutDelay (omega arith)

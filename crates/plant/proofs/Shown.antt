@@ -5,7 +5,7 @@ use native.Mathlib.Decide.{decLt}
 use native.Mathlib.Nat.{add-suc, add-zero, suc-mul, zero-mul, mul-zero}
 use mathlib.Core.Path.{_≡_}
 use mathlib.Core.Logic.{dite}
-use Rattle.plant.specs.Plant.{Watch, There, Enough, GapLeast, Observed, TrulyShown, outputs}
+use Rattle.plant.specs.Plant.{Watch, There, Enough, GapLeast, Observed, ShownBy, TrulyShown, outputs}
 use Rattle.plant.specs.Weaker.{Sufficient}
 use Rattle.plant.proofs.Outputs.{outputs-shown}
 
@@ -45,3 +45,7 @@ sufficient w o = record {
 
 pub truly-shown : (w : Watch) → Observed w → TrulyShown w (outputs w)
 truly-shown w o = outputs-shown w (w .taken 0) (sufficient w o)
+
+-- what was shown within an age was shown within a longer one
+abbrev pub longer : {plant : ℕ → ℕ} {word instant a b : ℕ} → a ≤ b → ShownBy plant word instant a → ShownBy plant word instant b
+longer l h = record { moment = h .moment; no-later = h .no-later; recent = omega (arith, h .recent); whole = h .whole }

@@ -16,7 +16,7 @@ use Rattle.plant.specs.Plant.{Watch, ageOf, There, Changes, Formed, Obse
 use Rattle.plant.specs.Stairs.{raised, rise, rising, oldest, stairs}
 use Rattle.plant.specs.Edges.{paperAge}
 use Rattle.plant.proofs.Words.{list-at}
-use Rattle.plant.proofs.Shown.{factors}
+use Rattle.plant.proofs.Shown.{factors, longer}
 use Rattle.plant.proofs.Tracks.{input, Tracks, tracks-fresh, by-clause, alike-on, tracks-next, along}
 
 raised-on : (r s : ℕ) → r ≤ s → raised r s ≡ 1
@@ -153,7 +153,7 @@ module _ (n need tm tM d : ℕ) (gaps : tm ≤ tM) (enough : d < need * tm) wher
   -- so no smaller age is a bound; and document 000's is none where D > TM
   pub no-sooner : 1 ≤ n → (age : ℕ) → age < ageOf w → ShownBy (w .plant) (getD (outputs w) (oldest n need d) 0) (w .taken (oldest n need d)) age → ⊥
   no-sooner some age l h =
-      absurd (omega (arith, stairs-reached some (record { moment = h .moment; no-later = h .no-later; recent = omega (arith, h .recent); whole = h .whole })))
+      absurd (omega (arith, h .recent, stairs-reached some (longer (omega arith) h)))
 
   pub paper-no-bound : 1 ≤ n → tM < d → ShownBy (w .plant) (getD (outputs w) (oldest n need d) 0) (w .taken (oldest n need d)) (paperAge w) → ⊥
   paper-no-bound some over = no-sooner some (paperAge w) (omega (arith, add-mul (n * need) 1 tM))
