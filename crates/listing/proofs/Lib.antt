@@ -5,3 +5,4 @@ pub mod Joined
 pub mod Pairs
 pub mod Reading
 pub mod Texts
+pub mod Unique

@@ -1,5 +1,5 @@
 -- The text of a recording: which one it is, that it fits the buffer, and so what the listing leaves there.
-use mathlib.Core.Path.{_≡_, refl, sym, _∙_}
+use mathlib.Core.Path.{_≡_, refl, sym, ap, _∙_}
 use mathlib.Core.Bool.{Bool, true, false}
 use mathlib.Core.List.{List, map, zip}
 use Prim.Native.Nat.{ℕ, _≤_}
@@ -25,8 +25,9 @@ use Rattle.recording.specs.declared.Header.{Header}
 use Rattle.recording.specs.Recording.{headerOf, sampleAt, readOf}
 use Rattle.recording.proofs.Taken.{Accepted, taken}
 use Rattle.text.specs.Put.{laid, Writes}
+use Rattle.text.proofs.Laws.{laid-length}
 use Rattle.listing.specs.declared.Kind.the-variants.{Confirm, Pair, Reserve}
-use Rattle.listing.specs.Listing.{confirmText, pairText, reserveText, unitsText, unit, refusedText, textOf, longest, answerFor, Lists}
+use Rattle.listing.specs.Listing.{confirmText, pairText, reserveText, unitsText, unit, refusedText, textOf, longest, answerFor, writtenOf, Lists}
 use Rattle.listing.specs.Runnable.{Runnable}
 use Rattle.listing.proofs.Bounds.{listing-most, refused-most}
 use Rattle.listing.proofs.Columns.{runnable}
@@ -74,6 +75,10 @@ module _ (h : Header) (run : Runnable h) (one two three four : List ℕ) where
     go false true = pair-most a b
     go false false = reserve-most a b c d
 
+shown-written : (a : RunAnswer) (r : ℕ) → writtenOf (answerFor a r) ≡ r
+shown-written Done r = refl
+shown-written (RunRefused number sample) r = refl
+
 module _ (s : List ℕ) where
   pub accepted-text : (ok : Accepted false s) → readOf false s .answer ≡ Done → textOf s ≡ (let h = headerOf s in unitsText h (unit s h 1) (unit s h 2) (unit s h 3) (unit s h 4))
   unfolding textOf
@@ -103,4 +108,9 @@ module _ (s : List ℕ) where
       let w = writes (omega (arith, text-most)) in
       let long = le-ltb (length out) longest room in
       let next : r ≡ length (textOf s) = w .next ∙ zero-add (length (textOf s)) in
-      record { answered = rw (long, e, ← next); out-after = rw long (w .buffer ∙ rw zero-add) }
+      let same : length new ≡ length out = ap length (w .buffer) ∙ laid-length out 0 (textOf s) (omega (arith, text-most)) in
+      record {
+        answered = rw (long, e, ← next);
+        within = rw (shown-written a r) (omega (arith, w .room));
+        out-after = rw long (w .buffer ∙ rw zero-add);
+      }

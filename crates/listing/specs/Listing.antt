@@ -1,5 +1,5 @@
 -- The text of a listing: document 01, "The recording". Bytes of a recording in, text out, line by line.
-use Prim.Native.Nat.{ℕ, zero, suc}
+use Prim.Native.Nat.{ℕ, zero, suc, _≤_}
 use Prim.Native.Char.{Char, code}
 use Prim.Native.String.{String}
 use mathlib.Core.Path.{_≡_}
@@ -122,7 +122,14 @@ answerFor (RunRefused number sample) written = Refused written
 abbrev pub answerOf : ℕ → List ℕ → ListAnswer
 answerOf room s = if tooShort room then TooShort else answerFor (readOf false s .answer) (length (textOf s))
 
+-- how many bytes of the buffer the answer speaks of
+abbrev pub writtenOf : ListAnswer → ℕ
+writtenOf (Listed written) = written
+writtenOf (Refused written) = written
+writtenOf TooShort = 0
+
 -- what the listing promises of its answer and of the buffer: the text at its start, and all after it as it came; nothing where it is too short
 pub record Lists (s out : List ℕ) (r : ListAnswer) (out′ : List ℕ) : Type 0 where
   pub answered : r ≡ answerOf (length out) s
+  pub within : writtenOf r ≤ length out′
   pub out-after : out′ ≡ (if tooShort (length out) then out else textOf s ++ drop (length (textOf s)) out)

@@ -7,7 +7,7 @@ ghost use mathlib.Core.Path.{_≡_};
 ghost use Prim.Native.Nat.{_≤_};
 ghost use lib.ListN.{length, take};
 ghost use Rattle.text.specs.Put.{Writes};
-ghost use Rattle.listing.specs.Listing.{confirmText, pairText, reserveText, unitsText, longest, Lists};
+ghost use Rattle.listing.specs.Listing.{confirmText, pairText, reserveText, unitsText, longest, writtenOf, Lists};
 ghost use Rattle.listing.specs.Runnable.{told, nextPair, pairsOf, Column, Runnable, Room, Units};
 
 // What a recording's units take.
@@ -23,6 +23,19 @@ pub enum ListAnswer {
     Listed(usize),
     Refused(usize),
     TooShort,
+}
+
+impl ListAnswer {
+    // How many bytes of the buffer were written.
+    pub fn written(self) -> usize
+        ensures { λ r. ⌜ r ≡ writtenOf self ⌝ }
+    {
+        match self {
+            ListAnswer::Listed(k) => k,
+            ListAnswer::Refused(k) => k,
+            ListAnswer::TooShort => 0,
+        }
+    }
 }
 
 // The bytes of the longest text: a buffer has to have as many.
