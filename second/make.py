@@ -6,14 +6,17 @@
 
 A crate that stands on `lines`, by its line in crates.txt, is a program that makes calls. The calls of a room are
 in the stdin of the first program whose line names it, and their answers in its stdout. A room that no program names
-waits in `stored`, with a file of each.
+waits in `stored`, with a file of each. The recordings of `samples` and their listings are made too; the program `list`
+is run on the first of them.
 """
 
 import os
 import sys
 
 import generate
+import listing
 import protocol
+import samples
 
 HERE = os.path.dirname(os.path.abspath(__file__))
 TOP = os.path.dirname(HERE)
@@ -36,10 +39,22 @@ def texts(rooms):
             ''.join(protocol.answer(call) + '\n' for call in calls))
 
 
-def made_files():
-    """The text of every stored file, by its name below the repository's top."""
-    called = programs()
+def sample_files():
+    """The recordings of `samples` and their listings; the first is what `list` is run on."""
     files = {}
+    for name, made in samples.SAMPLES.items():
+        data = made()
+        files[os.path.join('samples', name + '.qsr')] = data
+        files[os.path.join('samples', name + '.txt')] = listing.listing(data)
+    files[os.path.join('crates', 'list', 'stdin')] = samples.paper()
+    files[os.path.join('crates', 'list', 'stdout')] = listing.listing(samples.paper())
+    return files
+
+
+def made_files():
+    """What every stored file holds, by its name below the repository's top."""
+    called = programs()
+    files = sample_files()
     for crate, rooms in called.items():
         names = [os.path.join('crates', crate, name) for name in ('stdin', 'stdout')]
         files.update(zip(names, texts(rooms)))
@@ -51,22 +66,28 @@ def made_files():
 
 
 def stored_names():
-    """What is stored now."""
-    folder = os.path.join(TOP, STORED)
-    waiting = sorted(os.listdir(folder)) if os.path.isdir(folder) else []
-    return [os.path.join(STORED, name) for name in waiting]
+    """What is stored now in the folders that hold nothing else."""
+    for folder in (STORED, 'samples'):
+        whole = os.path.join(TOP, folder)
+        for name in sorted(os.listdir(whole)) if os.path.isdir(whole) else []:
+            yield os.path.join(folder, name)
+
+
+def as_bytes(made):
+    return made if isinstance(made, bytes) else made.encode('ascii')
 
 
 def write(files):
-    for name in stored_names():
+    for name in list(stored_names()):
         if name not in files:
             os.remove(os.path.join(TOP, name))
-    for name, text in files.items():
+    for name, made in files.items():
         whole = os.path.join(TOP, name)
+        data = as_bytes(made)
         os.makedirs(os.path.dirname(whole), exist_ok=True)
         with open(whole, 'wb') as file:
-            file.write(text.encode('ascii'))
-        print('%s: %d lines, %d bytes' % (name, text.count('\n'), len(text)))
+            file.write(data)
+        print('%s: %d lines, %d bytes' % (name, data.count(b'\n'), len(data)))
 
 
 def first_difference(stored, made):
@@ -84,15 +105,15 @@ def check(files):
         if name not in files:
             print('%s is stored and not made' % name)
             return 1
-    for name, text in files.items():
+    for name, made in files.items():
         whole = os.path.join(TOP, name)
         if not os.path.exists(whole):
             print('%s is missing' % name)
             return 1
         with open(whole, 'rb') as file:
             stored = file.read()
-        if stored != text.encode('ascii'):
-            print('%s differs at line %d' % (name, first_difference(stored, text.encode('ascii'))))
+        if stored != as_bytes(made):
+            print('%s differs at line %d' % (name, first_difference(stored, as_bytes(made))))
             return 1
     print('second: %d files are exactly as made' % len(files))
     return 0

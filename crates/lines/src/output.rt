@@ -6,8 +6,12 @@ use crate::room;
 
 const OUT: i32 = 1;
 
+pub fn first_wide(n: u64) {
+    io::print_decimal(OUT, n);
+}
+
 pub fn first(n: u32) {
-    io::print_decimal(OUT, n as u64);
+    first_wide(n as u64);
 }
 
 pub fn next_wide(n: u64) {
@@ -21,6 +25,21 @@ pub fn next(n: u32) {
 
 pub fn end_line() {
     io::write_all(OUT, b"\n");
+}
+
+fn shown(b: u8) -> u8 {
+    if b == b'\n' { b'|' } else { b }
+}
+
+// A text after a space, with a bar for each newline, so that it stays on its line.
+pub fn text(s: &[u8]) {
+    io::write_all(OUT, b" ");
+    let mut at = 0;
+    while at < s.len() {
+        let one = [shown(s[at]); 1];
+        io::write_all(OUT, &one);
+        at += 1;
+    }
 }
 
 // The place after the run of equal places that starts at `from`.
