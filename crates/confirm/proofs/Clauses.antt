@@ -1,4 +1,4 @@
--- What the clauses of a confirmation keep: the width, and N.
+-- What the clauses of a confirmation keep: the width, N, and as the output the word that is shown.
 use mathlib.Core.Path.{_≡_, refl}
 use mathlib.Core.Bool.{Bool, true, false, not}
 use Prim.Native.Nat.{ℕ, _+_, _-_}
@@ -7,6 +7,7 @@ use Rattle.rules.specs.Choose.{if_then_else_}
 use Rattle.confirm.specs.declared.Confirm.{Confirm}
 use Rattle.confirm.specs.declared.ConfirmStep.{ConfirmStep}
 use Rattle.confirm.specs.Confirm.{held, confirmed, clauses}
+use Rattle.confirm.specs.Run.{shownWord}
 
 -- the clauses, of any two tests
 abbrev pub byTests : Confirm → ℕ → Bool → Bool → ConfirmStep
@@ -14,6 +15,14 @@ byTests s x changed waiting =
     if changed then held s x 0 else
     if waiting then held s x (s .count + 1) else
     confirmed s x
+
+pub shown-stays : (s : Confirm) (x : ℕ) → shownWord (clauses s x) ≡ clauses s x .state .output
+unfolding clauses
+shown-stays s x = go (not (eqb x (s .input))) (ltb (s .count) (s .need - 1)) where
+  go : (p r : Bool) → shownWord (byTests s x p r) ≡ byTests s x p r .state .output
+  go true r = refl
+  go false true = refl
+  go false false = refl
 
 pub same-sizes : (s : Confirm) (x : ℕ) → (clauses s x .state .n ≡ s .n) × (clauses s x .state .need ≡ s .need)
 unfolding clauses

@@ -1,7 +1,7 @@
 -- Demand 3 of the calls: what `confirm::run` leaves in the lent slice, and what the public steps answer from a fresh state.
 use mathlib.Core.Path.{_≡_, refl, sym, _∙_}
 use mathlib.Core.List.{List, map}
-use mathlib.Core.Bool.{Bool, true, false}
+use mathlib.Core.Bool.{false}
 use Prim.Native.Nat.{ℕ, _≤_}
 use native.Mathlib.Omega.{arith}
 use denote.Ref.{now}
@@ -9,20 +9,17 @@ use contract.Lifetimes.{Lfts}
 use lib.ListN.{length, getD}
 use borrow.Author.Tests.{le-ltb}
 use Rattle.rules.specs.Limits.{badCount, outside}
-use Rattle.rules.specs.Table.{first, Given}
-use Rattle.rules.specs.Refusals.{makeRows}
-use Rattle.rules.proofs.Readings.{run-0}
+use Rattle.rules.proofs.Readings.{Makes}
 use Rattle.rules.proofs.Width.{lt-inside}
 use Rattle.rules.proofs.Signals.{bit-small, word-small}
 use Rattle.trace.specs.Samples.{somewhere}
-use Rattle.trace.specs.Answers.{runAnswer}
 use Rattle.trace.specs.declared.RunAnswer.the-variants.{Done}
-use Rattle.trace.proofs.Samples.{smallest}
+use Rattle.trace.proofs.Runs.{done-when}
+use Rattle.trace.proofs.Samples.{nowhere-if}
 use Rattle.trace.proofs.Steps.{agree}
-use Rattle.confirm.specs.Confirm.{clauses, made, madeOf, stepOf}
+use Rattle.confirm.specs.Confirm.{clauses, madeOf, stepOf}
 use Rattle.confirm.specs.Run.{leaves, steps, publicSteps, shownWord, unequal, answerOf}
-use Rattle.confirm.proofs.Exactly.{from-word-exactly}
-use Rattle.confirm.proofs.Stepwise.{Sound, step-is-clauses, sound-next}
+use Rattle.confirm.proofs.Stepwise.{Sound, made-taken, made-fresh, step-is-clauses, sound-next}
 use Rattle.confirm.proofs.run.Reads as run
 use Rattle.plant.specs.Plant.{Watch, freshOf, There, Formed, Observed, TrulyShown, outputs}
 use Rattle.plant.specs.Calls.{Means, RunOn}
@@ -43,27 +40,23 @@ samples-inside w f k l = lt-inside (w .n) _ (rw (f k l) (word-small _ (λ i. bit
 
 -- where the constructor takes the watch's n, N and initial word
 module _ (w : Watch) (o : Observed w) (taken : madeOf (w .n) (w .need) (w .initial) .refusal ≡ 0) where
-  none-refused : Given 0 (makeRows (badCount (w .need)) (w .n) (w .initial))
-  none-refused = from-word-exactly (w .n) (w .need) (w .initial) 0 .0 taken
-
-  made-fresh : madeOf (w .n) (w .need) (w .initial) ≡ made (w .n) (w .need) (w .initial)
-  unfolding madeOf first
-  made-fresh = simp (none-refused .0, none-refused .1 .0, none-refused .1 .1 .0)
+  none-refused : Makes (badCount (w .need)) (w .n) (w .initial)
+  none-refused = made-taken (w .n) (w .need) (w .initial) taken
 
   sound : Sound (w .n) (freshOf w)
   sound = record {
     width = refl;
-    counted = none-refused .0;
-    wide = none-refused .1 .0;
+    counted = none-refused .counted;
+    wide = none-refused .wide;
     small = omega arith;
-    input-in = none-refused .1 .1 .0;
-    output-in = none-refused .1 .1 .0;
+    input-in = none-refused .word-in;
+    output-in = none-refused .word-in;
   }
 
   -- the public steps from the state that it made are the clauses, so none is refused
   pub public-steps : publicSteps (madeOf (w .n) (w .need) (w .initial) .state) (w .samples) ≡ steps (freshOf w) (w .samples)
   public-steps =
-      rw made-fresh
+      rw (made-fresh (w .n) (w .need) (w .initial) none-refused)
       (sym (agree clauses stepOf leaves (Sound (w .n)) (λ (x : ℕ). outside (w .n) x ≡ false) (step-is-clauses (w .n)) (sound-next (w .n)) 0
       (freshOf w) (w .samples) sound (samples-inside w (o .formed))))
 
@@ -72,23 +65,18 @@ module _ (w : Watch) (o : Observed w) (taken : madeOf (w .n) (w .need) (w .initi
 
   -- so no sample is refused
   none-outside : somewhere (outside (w .n)) (w .samples) ≡ false
-  none-outside = go (somewhere (outside (w .n)) (w .samples)) refl where
-    go : (b : Bool) → somewhere (outside (w .n)) (w .samples) ≡ b → b ≡ false
-    go false q = refl
-    go true q = let h = smallest (outside (w .n)) (w .samples) q in sym (h .marked 0) ∙ samples-inside w (o .formed) _ (h .there)
+  none-outside = nowhere-if (outside (w .n)) (w .samples) 0 (samples-inside w (o .formed))
 
   -- and a run over at most 2,048 of them, with slices of that length, does answer Done
   pub run-done :
       (words marks counts : List ℕ) → length (w .samples) ≤ 2048 → unequal (w .samples) words marks counts ≡ false
       → answerOf (w .n) (w .need) (w .initial) (w .samples) words marks counts ≡ Done
-  unfolding runAnswer
   run-done words marks counts short same =
-      rw
-      (run-0 (badCount (w .need)) (w .n) (w .initial) _ _ (somewhere (outside (w .n)) (w .samples)) .1 (record {
-        counted = none-refused .0;
-        wide = none-refused .1 .0;
+      done-when _ _ _ _ _ outside (w .samples) (record {
+        counted = none-refused .counted;
+        wide = none-refused .wide;
         short = le-ltb 2048 (length (w .samples)) short;
         alike = same;
-        word-in = none-refused .1 .1 .0;
+        word-in = none-refused .word-in;
         samples-in = none-outside;
-      }))
+      })

@@ -1,7 +1,7 @@
 -- Whether a film meets a premise, and whether it meets the conclusion, is decided by computing.
 use mathlib.Core.Path.{_≡_}
 use mathlib.Core.Logic.{_≢_, Dec·and, Dec·not, dite}
-use Prim.Native.Nat.{ℕ, zero, suc, _+_, _-_, _*_, _^_, _≤_, _<_, min}
+use Prim.Native.Nat.{ℕ, zero, suc, _+_, _*_, _^_, _≤_, _<_, min}
 use native.Mathlib.Omega.{arith}
 use native.Mathlib.Decide.{ℕ-discrete, decLe, decLt}
 use lib.ListN.{length, getD}

@@ -10,12 +10,11 @@ use native.Mathlib.Numerals.{add-one}
 use lib.Dec.{lit<}
 use Rattle.rules.specs.Bits.{bit}
 use Rattle.rules.specs.Signals.{asWord, asList}
-use Rattle.rules.proofs.Signals.{word-small, word-bit, word-zero, list-length}
+use Rattle.rules.proofs.Signals.{word-small, word-bit, word-zero, list-length, list-at}
 use Rattle.trace.specs.Trace.{trace}
 use Rattle.confirm.specs.Confirm.{clauses}
 use Rattle.plant.specs.Plant.{Changes, Observed, outputs}
 use Rattle.plant.specs.Moving.{period, turning, moving}
-use Rattle.plant.proofs.Words.{list-at}
 
 -- a quotient that changes has reached a multiple
 module _ (p : ℕ) (some : 0 < p) where

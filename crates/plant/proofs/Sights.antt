@@ -9,9 +9,10 @@ use native.Mathlib.Nat.{suc-mul, zero-mul, one-mul, mul-le-mul-right}
 use lib.ListN.{length}
 use Rattle.rules.specs.Bits.{bit}
 use Rattle.rules.proofs.Signals.{bit-small, word-small, word-bit}
+use Rattle.rules.proofs.Width.{words-agree}
 use Rattle.plant.specs.Plant.{Watch, gapOf, ageOf, ShownBy}
 use Rattle.plant.specs.Weaker.{Sufficient}
-use Rattle.plant.proofs.Words.{words-agree, apart, apart-grows}
+use Rattle.plant.proofs.Words.{apart, apart-grows}
 use Rattle.plant.proofs.Tracks.{input}
 use Rattle.plant.proofs.Moves.{Turns, once, still}
 

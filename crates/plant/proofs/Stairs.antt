@@ -9,13 +9,12 @@ use lib.ListN.{getD}
 use lib.Pow.{pow-pos}
 use borrow.Author.Tests.{le-leb, lt-leb}
 use Rattle.rules.specs.Bits.{bit}
-use Rattle.rules.proofs.Signals.{bit-small, word-small, word-bit, word-zero, list-length}
+use Rattle.rules.proofs.Signals.{bit-small, word-small, word-bit, word-zero, list-length, list-at}
 use Rattle.confirm.specs.declared.Confirm.{Confirm}
 use Rattle.confirm.specs.Confirm.{clauses}
 use Rattle.plant.specs.Plant.{Watch, ageOf, There, Changes, Formed, Observed, ShownBy, outputs}
 use Rattle.plant.specs.Stairs.{raised, rise, rising, oldest, stairs}
 use Rattle.plant.specs.Edges.{paperAge}
-use Rattle.plant.proofs.Words.{list-at}
 use Rattle.plant.proofs.Shown.{factors, longer}
 use Rattle.plant.proofs.Tracks.{input, Tracks, tracks-fresh, by-clause, alike-on, tracks-next, along}
 

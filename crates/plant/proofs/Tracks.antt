@@ -13,7 +13,7 @@ use Rattle.trace.specs.Trace.{trace}
 use Rattle.confirm.specs.declared.Confirm.{Confirm}
 use Rattle.confirm.specs.Confirm.{held, confirmed, clauses}
 use Rattle.confirm.specs.Run.{steps, shownWord}
-use Rattle.confirm.proofs.Clauses.{byTests}
+use Rattle.confirm.proofs.Clauses.{byTests, shown-stays}
 use Rattle.plant.specs.Plant.{Watch, freshOf, There, outputs}
 
 -- The initial word counts as a sample before the first: input 0 is the initial word, input k + 1 is sample k.
@@ -86,15 +86,6 @@ module _ (w : Watch) (some : 1 ≤ w .need) where
           alike = λ j jk h. alike-on e j jk (omega arith);
         })
 
--- what is shown is what is stored as the output
-shows-output : (s : Confirm) (x : ℕ) → shownWord (clauses s x) ≡ clauses s x .state .output
-unfolding clauses
-shows-output s x = go (not (eqb x (s .input))) (ltb (s .count) (s .need - 1)) where
-  go : (p r : Bool) → shownWord (byTests s x p r) ≡ byTests s x p r .state .output
-  go true r = refl
-  go false true = refl
-  go false false = refl
-
 -- A property of the states after each input holds of some state that has the output shown at each sample.
 module _ (w : Watch) (P : Confirm → ℕ → Type 0) (step : (s : Confirm) (k : ℕ) → k < length (w .samples) → P s k → P (clauses s (input w (suc k)) .state) (suc k)) where
   took : (s : Confirm) (k x : ℕ) → k < length (w .samples) → x ≡ input w (suc k) → P s k → P (clauses s x .state) (suc k)
@@ -111,7 +102,7 @@ module _ (w : Watch) (P : Confirm → ℕ → Type 0) (step : (s : Confirm) (k :
   onwards [] s k f same i j m e l = absurd (omega (arith, l))
   onwards (x ∷ xs) s k f same i zero m e l =
       let q : k ≡ m = omega arith in
-      rw (← q) (clauses s x .state, took s k x (omega arith) (same 0 k (omega arith) (omega arith)) i, shows-output s x)
+      rw (← q) (clauses s x .state, took s k x (omega arith) (same 0 k (omega arith) (omega arith)) i, shown-stays s x)
   onwards (x ∷ xs) s k f same i (suc j) m e l =
       onwards xs (clauses s x .state) (suc k) (omega arith) (λ j m e l. same (suc j) m (omega arith) (omega arith))
       (took s k x (omega arith) (same 0 k (omega arith) (omega arith)) i) j m (omega arith) (omega arith)

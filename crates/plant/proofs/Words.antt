@@ -1,36 +1,14 @@
--- A tuple of n signals is known by its signals; in how many of them two words differ; and what stands in a list put together.
-use mathlib.Core.Path.{_≡_, sym, _∙_, ap}
+-- In how many signals two words differ, and how that grows while each signal moves at most once.
+use mathlib.Core.Path.{_≡_, sym, _∙_}
 use mathlib.Core.Logic.{_≢_, dite}
-use mathlib.Core.List.{[], append-nil}
-use Prim.Native.Nat.{ℕ, zero, suc, _+_, _*_, _/_, _%_, _^_, _≤_, _<_}
+use Prim.Native.Nat.{ℕ, zero, suc, _+_, _^_, _≤_, _<_}
 use native.Mathlib.Omega.{arith}
 use native.Mathlib.Decide.{ℕ-discrete, decLt}
-use native.Mathlib.Nat.{div-one, pow-suc}
-use native.Mathlib.Numerals.{one-add}
 use lib.Dec.{eqb}
-use lib.ListN.{getD}
-use lib.Pow.{shr-shr}
-use lib.Seq.{drop-nil}
 use borrow.Author.Tests.{eq-eqb, ne-eqb}
 use Rattle.rules.specs.Bits.{bit}
 use Rattle.rules.specs.Choose.{if_then_else_}
-use Rattle.rules.specs.Signals.{asList}
-use Rattle.rules.proofs.Signals.{place-below}
-
--- signal i + 1 is signal i of the word's other signals
-next-signal : (i w : ℕ) → bit (suc i) w ≡ bit i (w / 2)
-next-signal i w = sym (ap (λ x. x % 2) (shr-shr w 1 i ∙ ap (λ j. w / 2 ^ j) (one-add i)))
-
-pub words-agree : (n a b : ℕ) → a < 2 ^ n → b < 2 ^ n → ((i : ℕ) → i < n → bit i a ≡ bit i b) → a ≡ b
-words-agree zero a b la lb h = omega arith
-words-agree (suc n) a b la lb h =
-    let la′ : a < 2 ^ n * 2 = rw pow-suc at la in
-    let lb′ : b < 2 ^ n * 2 = rw pow-suc at lb in
-    let others : a / 2 ≡ b / 2 =
-    words-agree n (a / 2) (b / 2) (omega arith) (omega arith)
-    (λ i l. sym (next-signal i a) ∙ h (suc i) (omega arith) ∙ next-signal i b) in
-    let lowest : a % 2 ≡ b % 2 = simp div-one at (h 0 (omega arith)) in
-    omega arith
+use Rattle.rules.proofs.Width.{words-agree}
 
 -- 1 where two values differ
 unfoldable unlike : ℕ → ℕ → ℕ
@@ -110,7 +88,3 @@ apart-grows n u v w lv lw once d =
 
     after : ℕ → ℕ
     after i = unlike (bit i u) (bit i w)
-
--- place k of a list that is put together
-pub list-at : (f : ℕ → ℕ) (m k : ℕ) → k < m → getD (asList m f) k 0 ≡ f k
-list-at f m k l = rw (drop-nil, append-nil) at (place-below f [] m k l)

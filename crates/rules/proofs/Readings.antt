@@ -1,6 +1,6 @@
 -- The three tables read out: each number, exactly when its row's test is true and no lower row's is; 0, nothing refused,
 -- exactly when no test is true. Every voter's calls have these tables, so this page is read once for all of them.
-use mathlib.Core.Path.{_≡_, refl, sym}
+use mathlib.Core.Path.{_≡_, refl, sym, _∙_}
 use mathlib.Core.Logic.{_↔_}
 use mathlib.Core.List.{List, List·Memᴰ}
 use mathlib.Core.Bool.{Bool, true, false}
@@ -8,7 +8,7 @@ use Prim.Native.Nat.{ℕ, _≤_}
 use Rattle.rules.specs.Limits.{badWidth, outside}
 use Rattle.rules.specs.Table.{Row, _when_, first, answer, numbered, rising, Given, _and_}
 use Rattle.rules.specs.Refusals.{makeRows, stepRows, runRows}
-use Rattle.rules.proofs.Tables.{exactly, lowest, works}
+use Rattle.rules.proofs.Tables.{exactly, lowest, works, own-number}
 
 module _ (miscounted : Bool) (n word : ℕ) where
   abbrev making : List Row
@@ -41,6 +41,15 @@ module _ (miscounted : Bool) (n word : ℕ) where
   -- a constructor that refuses nothing does its work
   pub makes : {A : Type 0} (refuse : ℕ → A) (work : A) → Makes → answer (first making) refuse work ≡ work
   makes refuse work m = sym (works refuse work refl (make-0 .1 m))
+
+  -- and where it shows no refusal, its tests were all false
+  pub accepted :
+      {A : Type 0} (refusalOf : A → ℕ) (refuse : ℕ → A) (work : A)
+      → ((k : ℕ) → refusalOf (refuse k) ≡ k)
+      → refusalOf work ≡ 0
+      → refusalOf (answer (first making) refuse work) ≡ 0
+      → Makes
+  accepted refusalOf refuse work own none e = make-0 .0 (sym (own-number refusalOf (first making) refuse work own none) ∙ e)
 
   -- where several apply, the lowest number is given
   pub make-lowest : (j : ℕ) → List·Memᴰ (j when true) making → first making ≤ j

@@ -3,14 +3,15 @@ use mathlib.Core.Path.{_≡_, refl, sym, ap, _∙_}
 use mathlib.Core.Logic.{_↔_, dite}
 use mathlib.Core.Bool.{Bool, true, false, not, _||_}
 use Prim.Native.Nat.{ℕ, zero, suc, _+_, _*_, _≤_, _<_, _/_, _%_, _^_}
-use native.Mathlib.Nat.{div-eq-of-lt, div-lt-iff-lt-mul, mod-eq-of-lt, add-zero}
+use native.Mathlib.Nat.{div-eq-of-lt, div-lt-iff-lt-mul, mod-eq-of-lt, add-zero, div-one, pow-suc}
 use native.Mathlib.Decide.{decLt}
+use native.Mathlib.Numerals.{one-add}
 use native.Mathlib.Omega.{arith}
 use lib.Bits.{bitOr, or-lt, or-add-and, and-le-l, and-le-r}
-use lib.Pow.{pow-pos, pow-mono, shr-lt}
+use lib.Pow.{pow-pos, pow-mono, shr-lt, shr-shr}
 use lib.Dec.{ltb, eqb}
 use borrow.Author.Tests.{lt-ltb, le-ltb, ltb-true, ltb-false, eq-eqb, ne-eqb, not-false, not-true}
-use Rattle.rules.specs.Bits.{Within}
+use Rattle.rules.specs.Bits.{bit, Within}
 use Rattle.rules.specs.Limits.{outside}
 
 inside-lt : (n w : ℕ) → outside n w ≡ false → w < 2 ^ n
@@ -78,3 +79,18 @@ outside-or n a b = go (outside n a) (outside n b) refl refl where
 -- the word with no bit is inside every width
 pub zero-inside : (n : ℕ) → outside n 0 ≡ false
 zero-inside n = lt-inside n 0 (pow-pos n)
+
+-- a tuple of n signals is known by its signals: signal i + 1 is signal i of the word's other signals
+next-signal : (i w : ℕ) → bit (suc i) w ≡ bit i (w / 2)
+next-signal i w = sym (ap (λ x. x % 2) (shr-shr w 1 i ∙ ap (λ j. w / 2 ^ j) (one-add i)))
+
+pub words-agree : (n a b : ℕ) → a < 2 ^ n → b < 2 ^ n → ((i : ℕ) → i < n → bit i a ≡ bit i b) → a ≡ b
+words-agree zero a b la lb h = omega arith
+words-agree (suc n) a b la lb h =
+    let la′ : a < 2 ^ n * 2 = rw pow-suc at la in
+    let lb′ : b < 2 ^ n * 2 = rw pow-suc at lb in
+    let others : a / 2 ≡ b / 2 =
+    words-agree n (a / 2) (b / 2) (omega arith) (omega arith)
+    (λ i l. sym (next-signal i a) ∙ h (suc i) (omega arith) ∙ next-signal i b) in
+    let lowest : a % 2 ≡ b % 2 = simp div-one at (h 0 (omega arith)) in
+    omega arith

@@ -1,12 +1,11 @@
 -- The state's theorems in the words of the public calls: number 8 is never given, a fresh state is fit for a step, and after an
 -- accepted step number 7 is not given.
-use mathlib.Core.Path.{_≡_, refl, sym, ap, _∙_}
+use mathlib.Core.Path.{_≡_, refl, sym, _∙_}
 use mathlib.Core.Bool.{false, _||_, false≢true}
 use Prim.Native.Nat.{ℕ}
 use Rattle.rules.specs.Limits.{badCount, outside}
-use Rattle.rules.specs.Table.{first, numbered}
-use Rattle.rules.specs.Refusals.{makeRows}
-use Rattle.rules.proofs.Readings.{make-0}
+use Rattle.rules.specs.Table.{first}
+use Rattle.rules.proofs.Readings.{accepted}
 use Rattle.rules.proofs.Tables.{own-number, stays}
 use Rattle.tuple.specs.declared.Tuple.{Tuple}
 use Rattle.tuple.specs.declared.TupleMade.{TupleMade}
@@ -38,7 +37,6 @@ pub fresh-taken :
     → numberOf (stepOf (madeOf n need word .state) a b .answer) ≡ 0
 unfolding madeOf
 fresh-taken n need word a b e inside =
-    let number = own-number (λ (m : TupleMade). m .refusal) (first (makeRows (badCount need) n word)) notMade (made n need word) (λ k. refl) refl in
-    let m = make-0 (badCount need) n word .0 (sym number ∙ e) in
+    let m = accepted (badCount need) n word (λ (m : TupleMade). m .refusal) notMade (made n need word) (λ k. refl) refl e in
     let g = fresh-sound n need word (m .counted) (m .wide) (m .word-in) in
     rw (made-fresh n need word m, step-is-clauses n (fresh n need word) a b g inside) (none-refused (fresh n need word) a b)
