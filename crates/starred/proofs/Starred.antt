@@ -7,6 +7,11 @@ use Rattle.trace.specs.Samples.{firstWhere}
 use Rattle.trace.specs.Answers.{runAnswer}
 use Rattle.trace.specs.Trace.{trace}
 use Rattle.confirm.specs.Confirm.{clauses}
+use Rattle.rules.specs.Signals.{asList, someBelow}
+use Rattle.recording.specs.Fields.{fieldsOf}
+use Rattle.recording.specs.Recording.{readOf}
+use Rattle.text.specs.Text.{bytes, digits, placesUpTo, glyph}
+use Rattle.listing.specs.Listing.{textOf, listingOf, heading, line, joined}
 use Rattle.sizing.specs.Sizing.{sizingOf}
 use Rattle.threshold.specs.Threshold.{thresholdOf}
 use Rattle.vote.specs.Vote.{clauses as vote-clauses}
@@ -15,5 +20,5 @@ use Rattle.starred.specs.Rows.{Every}
 use Rattle.starred.specs.Table.{table}
 
 pub starred : Every table
-unfolding first firstWhere runAnswer trace clauses vote-clauses reserve-clauses sizingOf thresholdOf zip ofBits sub neg le lt
-starred = (refl, (refl, (refl, (refl, (refl, ((refl, refl, refl, refl), ((refl, refl, refl), ((refl, refl, refl), ((refl, refl, refl), (refl, (refl, (refl, tt))))))))))))
+unfolding first firstWhere runAnswer trace fieldsOf readOf textOf listingOf heading line joined asList someBelow bytes digits placesUpTo glyph clauses vote-clauses reserve-clauses sizingOf thresholdOf zip ofBits sub neg le lt
+starred = (refl, (refl, (refl, (refl, (refl, (refl, ((refl, refl, refl), ((refl, refl, refl), ((refl, refl, refl), (refl, (refl, (refl, tt))))))))))))

@@ -1,39 +1,24 @@
 -- A row is an example as document 01 writes it; `Holds` says what it claims of the definitions that the contracts cite.
 use Prim.Native.Nat.{ℕ}
 use mathlib.Core.Path.{_≡_}
-use mathlib.Core.List.{List, [], _∷_, map}
+use Prim.Native.String.{String}
+use mathlib.Core.List.{List, [], _∷_, _++_, map}
 use lib.Ieee.{Float}
 use Rattle.trace.specs.declared.RunAnswer.the-variants.{Done}
-use Rattle.confirm.specs.Confirm.{fresh}
-use Rattle.confirm.specs.Run.{steps, shownWord, shownMark, shownCount, answerOf}
 use Rattle.sizing.specs.Sizing.{sizingOf, notSized}
 use Rattle.threshold.specs.Threshold.{thresholdOf}
 use Rattle.vote.specs.Vote as vote
 use Rattle.vote.specs.Run as votes
 use Rattle.reserve.specs.Reserve as reserve
 use Rattle.reserve.specs.Run as reserves
+use Rattle.text.specs.Text.{bytes}
+use Rattle.listing.specs.Listing.{textOf}
 use Rattle.threshold.specs.declared.Threshold.the-variants.{Agreed, Alarm}
 
--- a line of a listing of confirmation: the sample's word, the output word, the mark, the count after the step
-infix 70 _shows_C_ _shows_H_
-pub data Line : Type 0 where
-  _shows_C_ _shows_H_ : ℕ → ℕ → ℕ → Line
-
-abbrev pub sampleOf : Line → ℕ
-sampleOf (x shows w C k) = x
-sampleOf (x shows w H k) = x
-
-abbrev pub outputOf : Line → ℕ
-outputOf (x shows w C k) = w
-outputOf (x shows w H k) = w
-
-abbrev pub markOf : Line → ℕ
-markOf (x shows w C k) = 0
-markOf (x shows w H k) = 1
-
-abbrev pub countOf : Line → ℕ
-countOf (x shows w C k) = k
-countOf (x shows w H k) = k
+-- the lines of a listing, each ended by a newline
+abbrev pub asText : List String → List ℕ
+asText [] = []
+asText (line ∷ lines) = bytes line ++ bytes "\n" ++ asText lines
 
 -- a line of a listing of a vote: what the units show, the mark, the word
 infix 70 _agreed_ _held_ _alarm_
@@ -60,13 +45,13 @@ abbrev pub column : {X : Type 0} → (X → ℕ) → List (VoteLine X) → List 
 column {X} unit = map (λ (l : VoteLine X). unit (seenIn l))
 
 infix 70 sizing-n_Tm_TM_D_gives-N_age:_gap:_ count-n_Tm_TM_D_is_ sizing-n_Tm_TM_D_refused_
-infix 70 confirm-n_N_from_lists_ vote-n_N_from_lists_ reserve-n_N_from_lists_
+infix 70 recording_lists_ vote-n_N_from_lists_ reserve-n_N_from_lists_
 infix 70 readings_and_and_tolerance_agreed_ readings_and_and_tolerance_alarm
 pub data Row : Type 0 where
   sizing-n_Tm_TM_D_gives-N_age:_gap:_ : ℕ → ℕ → ℕ → ℕ → ℕ → ℕ → ℕ → Row
   count-n_Tm_TM_D_is_ : ℕ → ℕ → ℕ → ℕ → ℕ → Row
   sizing-n_Tm_TM_D_refused_ : ℕ → ℕ → ℕ → ℕ → ℕ → Row
-  confirm-n_N_from_lists_ : ℕ → ℕ → ℕ → List Line → Row
+  recording_lists_ : List ℕ → List String → Row
   vote-n_N_from_lists_ : ℕ → ℕ → ℕ → List (VoteLine (ℕ × ℕ)) → Row
   reserve-n_N_from_lists_ : ℕ → ℕ → ℕ → List (VoteLine reserves.Sample) → Row
   readings_and_and_tolerance_agreed_ : Float → Float → Float → Float → Float → Row
@@ -77,11 +62,7 @@ abbrev pub Holds : Row → Type 0
 Holds (sizing-n n Tm tm TM tM D d gives-N need age: old gap: quiet) = sizingOf n tm tM d ≡ record { refusal = 0; count = need; age = old; quiet = quiet }
 Holds (count-n n Tm tm TM tM D d is need) = sizingOf n tm tM d .count ≡ need
 Holds (sizing-n n Tm tm TM tM D d refused number) = sizingOf n tm tM d ≡ notSized number
-Holds (confirm-n n N need from word lists lines) =
-    (answerOf n need word (map sampleOf lines) (map outputOf lines) (map markOf lines) (map countOf lines) ≡ Done)
-    × (map shownWord (steps (fresh n need word) (map sampleOf lines)) ≡ map outputOf lines)
-    × (map shownMark (steps (fresh n need word) (map sampleOf lines)) ≡ map markOf lines)
-    × (map shownCount (steps (fresh n need word) (map sampleOf lines)) ≡ map countOf lines)
+Holds (recording s lists lines) = textOf s ≡ asText lines
 Holds (vote-n n N need from word lists lines) =
     (votes.answerOf n need word (column (λ x. x .0) lines) (column (λ x. x .1) lines) (map wordIn lines) (map markIn lines) ≡ Done)
     × (map votes.shownWord (votes.steps (vote.fresh n need word) (map seenIn lines)) ≡ map wordIn lines)
