@@ -4,5 +4,6 @@ pub mod Columns
 pub mod Joined
 pub mod Pairs
 pub mod Reading
+pub mod Shown
 pub mod Texts
 pub mod Unique
