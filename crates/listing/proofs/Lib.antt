@@ -2,6 +2,7 @@ pub mod Accepts
 pub mod Bounds
 pub mod Columns
 pub mod Joined
+pub mod Lines
 pub mod Pairs
 pub mod Reading
 pub mod Shown
