@@ -4,6 +4,7 @@ pub mod Columns
 pub mod Joined
 pub mod Lines
 pub mod Pairs
+pub mod ReadBack
 pub mod Reading
 pub mod Shown
 pub mod Texts
