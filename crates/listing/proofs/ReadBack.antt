@@ -16,7 +16,7 @@ use Rattle.text.proofs.ReadBack.{decimal-inj, hex-inj}
 use Rattle.listing.specs.declared.Kind.{Kind}
 use Rattle.listing.specs.declared.Kind.the-variants.{Confirm, Pair, Reserve}
 use Rattle.listing.specs.Lines.{occurrences}
-use Rattle.listing.specs.Listing.{name, heading, letter, line, joined, lineAt, listingOf}
+use Rattle.listing.specs.Listing.{name, heading, letter, line, joined, lineAt, listingOf, refusedText}
 use Rattle.listing.proofs.Bounds.{line-length}
 use Rattle.listing.proofs.Lines.{digits-free}
 
@@ -45,7 +45,7 @@ pub line-inj :
     (k : ℕ) {word mark last word′ mark′ last′ : ℕ} → word < 2 ^ 32 → word′ < 2 ^ 32 → last < 2 ^ 32 → last′ < 2 ^ 32
     → line k word mark last ≡ line k word′ mark′ last′ → (word ≡ word′) × (mark ≡ mark′) × (last ≡ last′)
 unfolding line bytes
-line-inj k {word} {mark} {last} {word′} {mark′} {last′} h h′ l l′ e =
+line-inj k h h′ l l′ e =
     let numbered = append-cancel-left (decimal k) _ _ (simp append-assoc at e) in
     let words = hex-until 32 (omega arith) h h′ (tail-eq-of-cons-eq numbered) in
     let lasts = hex-until 10 (omega arith) {t = []} {t′ = []} l l′ (cc) in
@@ -69,8 +69,10 @@ letter-inj kind mark mark′ h h′ e = sym (letter-read kind mark h) ∙ ap unl
 -- two texts end with pieces of one length: the pieces are the same, and so is what is before
 apart : (s s′ t t′ : List ℕ) → length t ≡ length t′ → s ++ t ≡ s′ ++ t′ → (s ≡ s′) × (t ≡ t′)
 apart s s′ t t′ l e =
-    let long : length s ≡ length s′ = omega (arith, simp length-append at (ap length e)) in
-    (sym (take-at s t (length s′) long) ∙ ap (take (length s′)) e ∙ take-at s′ t′ (length s′) refl, sym (drop-at s t (length s′) long) ∙ ap (drop (length s′)) e ∙ drop-at s′ t′ (length s′) refl)
+    let long : length s ≡ length s′ = omega (arith, simp length-append at (ap length e)) in (
+      sym (take-at s t (length s′) long) ∙ ap (take (length s′)) e ∙ take-at s′ t′ (length s′) refl,
+      sym (drop-at s t (length s′) long) ∙ ap (drop (length s′)) e ∙ drop-at s′ t′ (length s′) refl,
+    )
 
 module _ (f g : ℕ → List ℕ) (alike : (i : ℕ) → length (f i) ≡ length (g i)) where
   joined-inj : (n : ℕ) → joined n f ≡ joined n g → (i : ℕ) → i < n → f i ≡ g i
@@ -136,6 +138,10 @@ pub record Given (a : Answers) : Type 0 where
   pub marks-in : (i : ℕ) → i < length (a .words) → getD (a .marks) i 0 ≤ 2
   pub lasts-in : (i : ℕ) → i < length (a .words) → getD (a .lasts) i 0 < 2 ^ 32
 
+-- two tables tell the same of sample i
+abbrev Alike : Answers → Answers → ℕ → Type 0
+Alike a b i = (getD (a .words) i 0 ≡ getD (b .words) i 0) × (getD (a .marks) i 0 ≡ getD (b .marks) i 0) × (getD (a .lasts) i 0 ≡ getD (b .lasts) i 0)
+
 -- THE LISTING READS BACK: it is the text of one table of answers only
 pub listing-inj : (a b : Answers) → Given a → Given b → listed a ≡ listed b → a ≡ b
 unfolding listingOf
@@ -144,10 +150,33 @@ listing-inj a b p q e =
     let here : ℕ → List ℕ = lineAt (a .kind) (a .words) (a .marks) (a .lasts) in
     let there : ℕ → List ℕ = lineAt (a .kind) (b .words) (b .marks) (b .lasts) in
     let lines : joined (length (a .words)) here ≡ joined (length (a .words)) there = head .4 ∙ rw (← head .0, ← head .1) in
-    let same : (i : ℕ) → length (here i) ≡ length (there i) = λ i. line-length i _ _ _ ∙ sym (line-length i _ _ _) in
-    let inside : (i : ℕ) → i < length (a .words) → i < length (b .words) = λ i l. rw (head .1) at l in
-    let each : (i : ℕ) → i < length (a .words) → (getD (a .words) i 0 ≡ getD (b .words) i 0) × (letter (a .kind) (getD (a .marks) i 0) ≡ letter (a .kind) (getD (b .marks) i 0)) × (getD (a .lasts) i 0 ≡ getD (b .lasts) i 0) = λ i l. line-inj i (p .words-in i l) (q .words-in i (inside i l)) (p .lasts-in i l) (q .lasts-in i (inside i l)) (joined-inj here there same (length (a .words)) lines i l) in
-    let words : a .words ≡ b .words = ext-getD 0 (a .words) (b .words) (head .1) (λ i l. each i l .0) in
-    let marks : a .marks ≡ b .marks = ext-getD 0 (a .marks) (b .marks) (cc) (λ i l. let m : i < length (a .words) = omega arith in letter-inj (a .kind) _ _ (p .marks-in i m) (q .marks-in i (inside i m)) (each i m .1)) in
-    let lasts : a .lasts ≡ b .lasts = ext-getD 0 (a .lasts) (b .lasts) (cc) (λ i l. each i (omega arith) .2) in
+    let each : (i : ℕ) → i < length (a .words) → Alike a b i =
+    λ i l.
+    let m : i < length (b .words) = rw (head .1) at l in
+    let same = joined-inj here there (λ j. line-length j _ _ _ ∙ sym (line-length j _ _ _)) (length (a .words)) lines i l in
+    let r = line-inj i (p .words-in i l) (q .words-in i m) (p .lasts-in i l) (q .lasts-in i m) same in
+    (r .0, letter-inj (a .kind) _ _ (p .marks-in i l) (q .marks-in i m) (r .1), r .2)
+    in
+    let words = ext-getD 0 (a .words) (b .words) (head .1) (λ i l. each i l .0) in
+    let marks = ext-getD 0 (a .marks) (b .marks) (cc) (λ i l. each i (omega arith) .1) in
+    let lasts = ext-getD 0 (a .lasts) (b .lasts) (cc) (λ i l. each i (omega arith) .2) in
     λ i. record { kind = head .0 i; n = head .2 i; need = head .3 i; words = words i; marks = marks i; lasts = lasts i }
+
+-- a refusal's line reads back too
+pub refused-inj :
+    {number sample number′ sample′ : ℕ} → number < 2 ^ 32 → number′ < 2 ^ 32 → sample < 2 ^ 32 → sample′ < 2 ^ 32
+    → refusedText number sample ≡ refusedText number′ sample′ → (number ≡ number′) × (sample ≡ sample′)
+unfolding refusedText bytes
+refused-inj h h′ l l′ e =
+    let numbers = decimal-until 32 (omega arith) h h′ (append-cancel-left (bytes "refused ") _ _ (simp append-assoc at e)) in
+    let samples = decimal-until 10 (omega arith) l l′ (append-cancel-left (bytes "at ") _ _ (numbers .1)) in
+    (numbers .0, samples .0)
+
+-- and it is no listing: the third letter of `refused` is that of no kind's name
+pub refused-apart : (number sample : ℕ) (a : Answers) → refusedText number sample ≡ listed a → ⊥
+unfolding refusedText listingOf heading bytes
+refused-apart number sample a e = go (a .kind) (ap (λ (s : List ℕ). getD s 2 0) e) where
+  go : (kind : Kind) → code "f" ≡ getD (listingOf kind (a .n) (a .need) (a .words) (a .marks) (a .lasts)) 2 0 → ⊥
+  go Confirm e = omega arith
+  go Pair e = omega arith
+  go Reserve e = omega arith
