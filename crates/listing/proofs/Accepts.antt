@@ -31,7 +31,7 @@ alike {a} {b} p q = rw (eq-eqb a b (p ∙ sym q))
 short : {a c : ℕ} → a ≡ c → c ≤ 2048 → tooLong a ≡ false
 short {a} e l = le-ltb 2048 a (rw e l)
 
-same : {h : Header} {x y : List ℕ} → Column h x → Column h y → length x ≡ length y
+pub same : {h : Header} {x y : List ℕ} → Column h x → Column h y → length x ≡ length y
 same p q = p .whole ∙ sym (q .whole)
 
 module _ (h : Header) (run : Runnable h) where
@@ -76,14 +76,12 @@ module _ (h : Header) (run : Runnable h) where
         let d : a ≡ Done = ran .answered ∙ pair-done in
         (rw d at (ran .words-after), rw d at (ran .marks-after), rw d at (ran .masks-after))
 
-  module _
-      {one two three four words marks lasts : List ℕ}
-      (units : (Column h one) × (Column h two) × (Column h three) × (Column h four)) (r : Room h words marks lasts) where
+  module _ {one two three four : List ℕ} (units : (Column h one) × (Column h two) × (Column h three) × (Column h four)) where
     abbrev reserve-taken : List ReserveStep
     reserve-taken = reserveRun.steps (reserve.fresh (h .n) (h .need) (h .word)) (reserveRun.samplesOf one two three four)
 
-    samples-in : somewhere (outsideFour (h .n)) (reserveRun.samplesOf one two three four) ≡ false
-    samples-in =
+    pub four-in : somewhere (outsideFour (h .n)) (reserveRun.samplesOf one two three four) ≡ false
+    four-in =
         let p = same (units .0) (units .1) in
         let q = same (units .2) (units .3) in
         neither (outsidePair (h .n)) (outsidePair (h .n)) (zip one two) (zip three four)
@@ -91,18 +89,19 @@ module _ (h : Header) (run : Runnable h) where
         (neither (outside (h .n)) (outside (h .n)) one two p (units .0 .inside) (units .1 .inside))
         (neither (outside (h .n)) (outside (h .n)) three four q (units .2 .inside) (units .3 .inside))
 
-    reserve-done : reserveRun.answerOf (h .n) (h .need) (h .word) one two three four words marks ≡ Done
-    reserve-done =
-        let e = units .0 .whole in
-        let few = run .few in
-        done-when _ _ _ _ _ outsideFour (reserveRun.samplesOf one two three four)
-        (fine _ _ _ (rw (short e few, short (units .1 .whole) few, short (units .2 .whole) few) (short (units .3 .whole) few))
-        (rw (alike e (units .1 .whole), alike e (units .2 .whole), alike e (units .3 .whole), alike e (r .for-words)) (alike e (r .for-marks)))
-        samples-in)
+    module _ {words marks lasts : List ℕ} (r : Room h words marks lasts) where
+      reserve-done : reserveRun.answerOf (h .n) (h .need) (h .word) one two three four words marks ≡ Done
+      reserve-done =
+          let e = units .0 .whole in
+          let few = run .few in
+          done-when _ _ _ _ _ outsideFour (reserveRun.samplesOf one two three four)
+          (fine _ _ _ (rw (short e few, short (units .1 .whole) few, short (units .2 .whole) few) (short (units .3 .whole) few))
+          (rw (alike e (units .1 .whole), alike e (units .2 .whole), alike e (units .3 .whole), alike e (r .for-words)) (alike e (r .for-marks)))
+          four-in)
 
-    pub reserve-shown :
-        {a : RunAnswer} {words′ marks′ : List ℕ} → reserveRun.Ran (h .n) (h .need) (h .word) one two three four words marks a words′ marks′
-        → (words′ ≡ map reserveRun.shownWord reserve-taken) × (marks′ ≡ map reserveRun.shownMark reserve-taken)
-    reserve-shown {a} ran =
-        let d : a ≡ Done = ran .answered ∙ reserve-done in
-        (rw d at (ran .words-after), rw d at (ran .marks-after))
+      pub reserve-shown :
+          {a : RunAnswer} {words′ marks′ : List ℕ} → reserveRun.Ran (h .n) (h .need) (h .word) one two three four words marks a words′ marks′
+          → (words′ ≡ map reserveRun.shownWord reserve-taken) × (marks′ ≡ map reserveRun.shownMark reserve-taken)
+      reserve-shown {a} ran =
+          let d : a ≡ Done = ran .answered ∙ reserve-done in
+          (rw d at (ran .words-after), rw d at (ran .marks-after))

@@ -39,7 +39,7 @@ module _ (s : List ℕ) (ok : Accepted false s) where
       let none = nowhere (outsideAt s h) (numbers h) 0 (ok .samples-in) i there in
       not-at (λ j. outside (h .n) (sampleAt s (h .samples) (j + 1) i)) (h .units) (rw (list-at (λ j. j) (h .samples) i l) at none) k u
 
-  column : (k : ℕ) → k < h .units → Column h (unit s h (k + 1))
+  pub column : (k : ℕ) → k < h .units → Column h (unit s h (k + 1))
   column k u =
       let long = list-length (sampleAt s (h .samples) (k + 1)) (h .samples) in
       record {

@@ -7,5 +7,7 @@ pub mod Pairs
 pub mod ReadBack
 pub mod Reading
 pub mod Shown
+pub mod Steps
+pub mod Tells
 pub mod Texts
 pub mod Unique

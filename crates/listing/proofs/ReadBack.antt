@@ -3,7 +3,7 @@ use Prim.Native.Char.{code}
 use mathlib.Core.Path.{_≡_, refl, sym, ap, _∙_}
 use mathlib.Core.List.{List, [], _∷_, _++_, append-assoc, append-cancel-left, tail-eq-of-cons-eq}
 use mathlib.Core.Logic.{⊎-elim}
-use Prim.Native.Nat.{ℕ, zero, suc, _+_, _^_, _≤_, _<_}
+use Prim.Native.Nat.{ℕ, zero, suc, _^_, _≤_, _<_}
 use native.Mathlib.Nat.{eq-or-lt-of-le, le-of-suc-le-suc}
 use native.Mathlib.Omega.{arith}
 use lib.Dec.{eqb}
@@ -128,7 +128,7 @@ abbrev pub listed : Answers → List ℕ
 listed a = listingOf (a .kind) (a .n) (a .need) (a .words) (a .marks) (a .lasts)
 
 -- as a run gives it: numbers of 32 bits, and one of the three marks
-pub record Given (a : Answers) : Type 0 where
+pub record Listable (a : Answers) : Type 0 where
   pub n-in : a .n < 2 ^ 32
   pub need-in : a .need < 2 ^ 32
   pub samples-in : length (a .words) < 2 ^ 32
@@ -143,7 +143,7 @@ abbrev Alike : Answers → Answers → ℕ → Type 0
 Alike a b i = (getD (a .words) i 0 ≡ getD (b .words) i 0) × (getD (a .marks) i 0 ≡ getD (b .marks) i 0) × (getD (a .lasts) i 0 ≡ getD (b .lasts) i 0)
 
 -- THE LISTING READS BACK: it is the text of one table of answers only
-pub listing-inj : (a b : Answers) → Given a → Given b → listed a ≡ listed b → a ≡ b
+pub listing-inj : (a b : Answers) → Listable a → Listable b → listed a ≡ listed b → a ≡ b
 unfolding listingOf
 listing-inj a b p q e =
     let head = heading-inj (a .kind) (b .kind) (p .samples-in) (q .samples-in) (p .n-in) (q .n-in) (p .need-in) (q .need-in) e in

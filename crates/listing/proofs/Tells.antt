@@ -1,0 +1,132 @@
+-- The text of a recording tells its answers: no two accepted recordings whose runs answer differently have one text.
+use mathlib.Core.Path.{_≡_, refl, sym, _∙_}
+use mathlib.Core.Bool.{Bool, true, false}
+use mathlib.Core.List.{List, zip}
+use mathlib.Core.Logic.{⊎-elim}
+use Prim.Native.Nat.{ℕ}
+use native.Mathlib.Omega.{arith}
+use lib.Dec.{eqb}
+use borrow.Author.Tests.{eq-eqb, ne-eqb}
+use Rattle.rules.specs.Choose.{if_then_else_}
+use Rattle.rules.specs.Limits.{outside}
+use Rattle.trace.specs.Samples.{outsideFour}
+use Rattle.trace.specs.declared.RunAnswer.the-variants.{Done, Refused as RunRefused}
+use Rattle.trace.proofs.Columns.{zip-length, four-length}
+use Rattle.trace.proofs.Samples.{nowhere}
+use Rattle.confirm.specs.Confirm as confirm
+use Rattle.confirm.specs.Run as confirmRun
+use Rattle.confirm.proofs.Stepwise as confirmSteps
+use Rattle.tuple.specs.Tuple as tuple
+use Rattle.tuple.specs.Run as tupleRun
+use Rattle.tuple.proofs.Sound as tupleSteps
+use Rattle.vote.proofs.Stepwise as voteSteps
+use Rattle.reserve.specs.Reserve as reserve
+use Rattle.reserve.specs.Run as reserveRun
+use Rattle.reserve.specs.declared.Reserve.{Reserve as ReserveState}
+use Rattle.reserve.proofs.Stepwise as reserveSteps
+use Rattle.recording.specs.Recording.{headerOf, readOf}
+use Rattle.recording.specs.declared.Header.{Header}
+use Rattle.recording.proofs.Shapes.{one-two-four}
+use Rattle.recording.proofs.Taken.{Accepted, taken}
+use Rattle.listing.specs.declared.Kind.the-variants.{Confirm, Pair, Reserve}
+use Rattle.listing.specs.Listing.{shownPair, unitsText, unit, textOf}
+use Rattle.listing.specs.Runnable.{Column, Runnable}
+use Rattle.listing.proofs.Accepts.{same, four-in}
+use Rattle.listing.proofs.Columns.{runnable, column}
+use Rattle.listing.proofs.ReadBack.{Answers, Listable, listed, listing-inj, refused-apart}
+use Rattle.listing.proofs.Texts.{accepted-text, refused-text}
+use Rattle.listing.proofs.Steps.{table, confirm-tells, tuple-tells, reserve-tells, run-listable}
+
+-- what the listing of a recording's units tells: of one unit its confirmation, of two the tuple vote, of four the reserve vote
+abbrev pub confirmTable : Header → List ℕ → Answers
+confirmTable h one =
+    table h Confirm confirmRun.shownWord confirmRun.shownMark confirmRun.shownCount (confirmRun.steps (confirm.fresh (h .n) (h .need) (h .word)) one)
+
+abbrev pub pairTable : Header → List ℕ → List ℕ → Answers
+pairTable h one two =
+    table h Pair tupleRun.shownWord tupleRun.shownMark tupleRun.shownMask (tupleRun.steps (tuple.fresh (h .n) (h .need) (h .word)) (zip one two))
+
+abbrev pub reserveTable : Header → List ℕ → List ℕ → List ℕ → List ℕ → Answers
+reserveTable h one two three four =
+    table h Reserve reserveRun.shownWord reserveRun.shownMark shownPair (reserveRun.steps (reserve.fresh (h .n) (h .need) (h .word)) (reserveRun.samplesOf one two three four))
+
+abbrev pub unitsTable : Header → List ℕ → List ℕ → List ℕ → List ℕ → Answers
+unitsTable h one two three four =
+    if eqb (h .units) 1 then confirmTable h one else
+    if eqb (h .units) 2 then pairTable h one two else
+    reserveTable h one two three four
+
+units-listed : (h : Header) (one two three four : List ℕ) → unitsText h one two three four ≡ listed (unitsTable h one two three four)
+units-listed h one two three four = go (eqb (h .units) 1) (eqb (h .units) 2) where
+  go :
+      (p q : Bool)
+      → (if p then listed (confirmTable h one) else if q then listed (pairTable h one two) else listed (reserveTable h one two three four))
+      ≡ listed (if p then confirmTable h one else if q then pairTable h one two else reserveTable h one two three four)
+  go true q = refl
+  go false true = refl
+  go false false = refl
+
+-- the table of a recording
+abbrev pub tableOf : List ℕ → Answers
+tableOf s = let h = headerOf s in unitsTable h (unit s h 1) (unit s h 2) (unit s h 3) (unit s h 4)
+
+module _ (s : List ℕ) (done : readOf false s .answer ≡ Done) where
+  abbrev h : Header
+  h = headerOf s
+
+  ok : Accepted false s
+  ok = taken false s done
+
+  run : Runnable h
+  run = runnable s ok
+
+  start : tupleSteps.Sound (h .n) (tuple.fresh (h .n) (h .need) (h .word))
+  start = tupleSteps.fresh-sound (h .n) (h .need) (h .word) (run .counted) (run .wide) (run .word-in)
+
+  one-listable : (x : Column h (unit s h 1)) → Listable (confirmTable h (unit s h 1))
+  one-listable x =
+      run-listable confirm.clauses confirmRun.leaves (confirmSteps.Sound (h .n)) (λ (w : ℕ). outside (h .n) w ≡ false) (confirmSteps.sound-next (h .n)) 0
+      h run Confirm confirmRun.shownWord confirmRun.shownMark confirmRun.shownCount (confirm-tells (h .n))
+      (confirm.fresh (h .n) (h .need) (h .word)) (unit s h 1) (start .confirm-sound) (nowhere (outside (h .n)) (unit s h 1) 0 (x .inside)) (x .whole)
+
+  two-listable : (x : Column h (unit s h 1)) (y : Column h (unit s h 2)) → Listable (pairTable h (unit s h 1) (unit s h 2))
+  two-listable x y =
+      run-listable tupleRun.stepped tupleRun.leaves (tupleSteps.Sound (h .n)) (λ (w : ℕ × ℕ). Unit {0}) (λ t w g f. tupleSteps.sound-next (h .n) t g (w .0) (w .1)) (0, 0)
+      h run Pair tupleRun.shownWord tupleRun.shownMark tupleRun.shownMask (λ t w g f. tuple-tells (h .n) t (w .0) (w .1) g)
+      (tuple.fresh (h .n) (h .need) (h .word)) (zip (unit s h 1) (unit s h 2)) start (λ i l. tt) (zip-length (unit s h 1) (unit s h 2) (same x y) ∙ x .whole)
+
+  four-listable :
+      (units : (Column h (unit s h 1)) × (Column h (unit s h 2)) × (Column h (unit s h 3)) × (Column h (unit s h 4)))
+      → Listable (reserveTable h (unit s h 1) (unit s h 2) (unit s h 3) (unit s h 4))
+  four-listable units =
+      let xs = reserveRun.samplesOf (unit s h 1) (unit s h 2) (unit s h 3) (unit s h 4) in
+      run-listable reserveRun.stepped reserveRun.leaves (λ (t : ReserveState). voteSteps.Sound (h .n) (t .vote)) (λ (w : reserveRun.Sample). outsideFour (h .n) w ≡ false) (reserveSteps.sound-next (h .n)) ((0, 0), (0, 0))
+      h run Reserve reserveRun.shownWord reserveRun.shownMark shownPair (reserve-tells (h .n))
+      (reserve.fresh (h .n) (h .need) (h .word)) xs
+      (record { width = refl; counted = run .counted; wide = run .wide; small = omega arith; word-in = run .word-in })
+      (nowhere (outsideFour (h .n)) xs ((0, 0), (0, 0)) (four-in h run units))
+      (four-length (unit s h 1) (unit s h 2) (unit s h 3) (unit s h 4) (same (units .0) (units .1)) (same (units .0) (units .2)) (same (units .0) (units .3)) ∙ units .0 .whole)
+
+  pub table-listable : Listable (tableOf s)
+  table-listable = ⊎-elim by-one (⊎-elim by-two by-four) (one-two-four (h .units) (ok .shape .head .units-known)) where
+    by-one : h .units ≡ 1 → Listable (tableOf s)
+    by-one e = rw (eq-eqb (h .units) 1 e) (one-listable (column s ok 0 (omega arith)))
+
+    by-two : h .units ≡ 2 → Listable (tableOf s)
+    by-two e = rw (ne-eqb (h .units) 1 (λ q. omega arith), eq-eqb (h .units) 2 e) (two-listable (column s ok 0 (omega arith)) (column s ok 1 (omega arith)))
+
+    by-four : h .units ≡ 4 → Listable (tableOf s)
+    by-four e =
+        rw (ne-eqb (h .units) 1 (λ q. omega arith), ne-eqb (h .units) 2 (λ q. omega arith))
+        (four-listable (column s ok 0 (omega arith), column s ok 1 (omega arith), column s ok 2 (omega arith), column s ok 3 (omega arith)))
+
+  pub text-listed : textOf s ≡ listed (tableOf s)
+  text-listed = accepted-text s ok done ∙ units-listed h (unit s h 1) (unit s h 2) (unit s h 3) (unit s h 4)
+
+-- THE TEXT TELLS THE ANSWERS: accepted recordings of one text have one table
+pub same-answers : (s s′ : List ℕ) → readOf false s .answer ≡ Done → readOf false s′ .answer ≡ Done → textOf s ≡ textOf s′ → tableOf s ≡ tableOf s′
+same-answers s s′ d d′ e = listing-inj (tableOf s) (tableOf s′) (table-listable s d) (table-listable s′ d′) (sym (text-listed s d) ∙ e ∙ text-listed s′ d′)
+
+-- and whether it was accepted
+pub never-both : (s s′ : List ℕ) (number sample : ℕ) → readOf false s .answer ≡ Done → readOf false s′ .answer ≡ RunRefused number sample → textOf s ≡ textOf s′ → ⊥
+never-both s s′ number sample d r e = refused-apart number sample (tableOf s) (sym (refused-text s′ number sample r) ∙ sym e ∙ text-listed s d)
