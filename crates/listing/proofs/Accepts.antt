@@ -31,7 +31,7 @@ alike {a} {b} p q = rw (eq-eqb a b (p ∙ sym q))
 short : {a c : ℕ} → a ≡ c → c ≤ 2048 → tooLong a ≡ false
 short {a} e l = le-ltb 2048 a (rw e l)
 
-pub same : {h : Header} {x y : List ℕ} → Column h x → Column h y → length x ≡ length y
+same : {h : Header} {x y : List ℕ} → Column h x → Column h y → length x ≡ length y
 same p q = p .whole ∙ sym (q .whole)
 
 module _ (h : Header) (run : Runnable h) where

@@ -19,6 +19,15 @@ use Rattle.listing.specs.declared.Kind.{Kind}
 use Rattle.listing.specs.declared.Kind.the-variants.{Confirm, Pair, Reserve}
 use Rattle.listing.specs.Listing.{listingOf, confirmText, pairText, reserveText, unitsText}
 
+-- as many samples of two units, or of four, as there are in each
+pub two-long : {k : ℕ} (one two : List ℕ) → length one ≡ k → length two ≡ k → length (zip one two) ≡ k
+two-long one two a b = zip-length one two (a ∙ sym b) ∙ a
+
+pub four-long :
+    {k : ℕ} (one two three four : List ℕ) → length one ≡ k → length two ≡ k → length three ≡ k → length four ≡ k
+    → length (reserveRun.samplesOf one two three four) ≡ k
+four-long one two three four a b c d = four-length one two three four (a ∙ sym b) (a ∙ sym c) (a ∙ sym d) ∙ a
+
 module _
     (h : Header) (P : List ℕ → Type 0)
     (each : (kind : Kind) (words marks lasts : List ℕ) → length words ≡ h .samples → P (listingOf kind (h .n) (h .need) words marks lasts))
@@ -38,9 +47,9 @@ module _
       go true q = each Confirm _ _ _ (shown (confirmRun.steps (confirm.fresh (h .n) (h .need) (h .word)) one) confirmRun.shownWord (trace-length _ _ _ one ∙ a))
       go false true =
           each Pair _ _ _
-          (shown (tupleRun.steps (tuple.fresh (h .n) (h .need) (h .word)) (zip one two)) tupleRun.shownWord (trace-length _ _ _ (zip one two) ∙ zip-length one two (a ∙ sym b) ∙ a))
+          (shown (tupleRun.steps (tuple.fresh (h .n) (h .need) (h .word)) (zip one two)) tupleRun.shownWord (trace-length _ _ _ (zip one two) ∙ two-long one two a b))
       go false false =
           let xs = reserveRun.samplesOf one two three four in
           each Reserve _ _ _
           (shown (reserveRun.steps (reserve.fresh (h .n) (h .need) (h .word)) xs) reserveRun.shownWord
-          (trace-length _ _ _ xs ∙ four-length one two three four (a ∙ sym b) (a ∙ sym c) (a ∙ sym d) ∙ a))
+          (trace-length _ _ _ xs ∙ four-long one two three four a b c d))

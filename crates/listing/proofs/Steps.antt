@@ -45,6 +45,7 @@ use Rattle.listing.specs.Listing.{shownPair}
 use Rattle.listing.specs.Runnable.{Runnable}
 use Rattle.listing.proofs.ReadBack.{Answers, Listable}
 
+-- a word inside a width is one of 32 bits
 below : (n w : ℕ) → badWidth n ≡ false → outside n w ≡ false → w < 2 ^ 32
 below n w wide inside =
     let l = ltb-true w (2 ^ n) (not-false (ltb w (2 ^ n)) inside) in
@@ -73,12 +74,13 @@ confirm-tells n s x g e =
     let few = count-range (confirm.clauses s x .state .need) (u .counted) in
     (rw (left .0) (below n _ (u .wide) (u .output-in)), left .1, omega (arith, u .small))
 
--- and so does the tuple vote, alarm or not
+-- what confirmation answers the tuple vote shows as it is
 confirmed-as : (x : ConfirmAnswer) → let y = tuple.confirmedAs x in (tupleAnswers.wordOf y ≡ confirmAnswers.wordOf x) × (tupleAnswers.markOf y ≡ confirmAnswers.markOf x)
 confirmed-as (Confirmed w) = (refl, refl)
 confirmed-as (Held w) = (refl, refl)
 confirmed-as (Refused k) = (refl, refl)
 
+-- so it shows the same output too, alarm or not
 tuple-left : (s : Tuple) (a b : ℕ) → let t = tuple.clauses s a b in (tupleRun.shownWord t ≡ t .state .confirm .output) × (tupleRun.shownMark t ≤ 2)
 unfolding tuple.clauses
 tuple-left s a b = go (not (eqb (tuple.votersOf s a b .mask) 0)) where
@@ -98,7 +100,7 @@ tuple-tells n s a b g =
     let left = tuple-left s a b in
     (rw (left .0) (below n _ (u .wide) (u .output-in)), left .1, below (tuple.width s) _ (rw (g .confirm-sound .width) (u .wide)) (mask-inside s a b))
 
--- a vote shows the word that it leaves
+-- no clause of a vote refuses, so it has one of three marks
 vote-marks : (s : Vote) (a b : ℕ) (reset : Bool) → voteRun.shownMark (vote.clauses s a b reset) ≤ 2
 unfolding vote.clauses
 vote-marks s a b reset = go (eqb a b) reset (ltb (s .count) (s .need - 1)) where
@@ -108,6 +110,7 @@ vote-marks s a b reset = go (eqb a b) reset (ltb (s .count) (s .need - 1)) where
   go false false true = omega arith
   go false false false = omega arith
 
+-- the reserve vote shows the word that its vote leaves, whichever pair is in force
 reserve-left :
     (s : ReserveState) (x : reserveRun.Sample)
     → let t = reserveRun.stepped s x in (reserveRun.shownWord t ≡ t .state .vote .word) × (reserveRun.shownMark t ≤ 2) × (shownPair t ≤ 2)

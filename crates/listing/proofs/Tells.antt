@@ -1,17 +1,21 @@
--- The text of a recording tells its answers: no two accepted recordings whose runs answer differently have one text.
-use mathlib.Core.Path.{_≡_, refl, sym, _∙_}
-use mathlib.Core.Bool.{Bool, true, false}
-use mathlib.Core.List.{List, zip}
+-- The text of a recording tells how it was read and what its run answered: recordings that differ in either have two texts.
+use mathlib.Core.Path.{_≡_, refl, sym, ap, _∙_}
+use mathlib.Core.Bool.{Bool, true, false, _&&_}
+use mathlib.Core.List.{List, [], _∷_, zip}
 use mathlib.Core.Logic.{⊎-elim}
-use Prim.Native.Nat.{ℕ}
+use Prim.Native.Nat.{ℕ, _≤_}
 use native.Mathlib.Omega.{arith}
-use lib.Dec.{eqb}
-use borrow.Author.Tests.{eq-eqb, ne-eqb}
+use lib.Dec.{eqb, leb}
+use borrow.Author.Tests.{leb-true, ltb-false, eqb-true, eqb-false, eq-eqb, ne-eqb}
 use Rattle.rules.specs.Choose.{if_then_else_}
 use Rattle.rules.specs.Limits.{outside}
-use Rattle.trace.specs.Samples.{outsideFour}
-use Rattle.trace.specs.declared.RunAnswer.the-variants.{Done, Refused as RunRefused}
-use Rattle.trace.proofs.Columns.{zip-length, four-length}
+use Rattle.rules.specs.Table.{Row, _when_, first}
+use Rattle.rules.proofs.Signals.{list-length}
+use Rattle.rules.proofs.Tables.{and-both, own-number}
+use Rattle.trace.specs.Answers.{runNumber, runSample, notRun}
+use Rattle.trace.specs.Samples.{firstWhere, outsideFour}
+use Rattle.trace.specs.declared.RunAnswer.{RunAnswer}
+use Rattle.trace.specs.declared.RunAnswer.the-variants.{Done, Refused}
 use Rattle.trace.proofs.Samples.{nowhere}
 use Rattle.confirm.specs.Confirm as confirm
 use Rattle.confirm.specs.Run as confirmRun
@@ -24,18 +28,20 @@ use Rattle.reserve.specs.Reserve as reserve
 use Rattle.reserve.specs.Run as reserveRun
 use Rattle.reserve.specs.declared.Reserve.{Reserve as ReserveState}
 use Rattle.reserve.proofs.Stepwise as reserveSteps
-use Rattle.recording.specs.Recording.{headerOf, readOf}
+use Rattle.recording.specs.Recording.{headerOf, outsideAt, numbers, rowsOf, readOf}
 use Rattle.recording.specs.declared.Header.{Header}
+use Rattle.recording.proofs.Answers.{read-exactly, read-six, read-others}
 use Rattle.recording.proofs.Shapes.{one-two-four}
 use Rattle.recording.proofs.Taken.{Accepted, taken}
 use Rattle.listing.specs.declared.Kind.the-variants.{Confirm, Pair, Reserve}
 use Rattle.listing.specs.Listing.{shownPair, unitsText, unit, textOf}
 use Rattle.listing.specs.Runnable.{Column, Runnable}
-use Rattle.listing.proofs.Accepts.{same, four-in}
+use Rattle.listing.proofs.Accepts.{four-in}
 use Rattle.listing.proofs.Columns.{runnable, column}
-use Rattle.listing.proofs.ReadBack.{Answers, Listable, listed, listing-inj, refused-apart}
-use Rattle.listing.proofs.Texts.{accepted-text, refused-text}
+use Rattle.listing.proofs.ReadBack.{Answers, Listable, listed, listing-inj, refused-inj, refused-apart}
+use Rattle.listing.proofs.Shown.{two-long, four-long}
 use Rattle.listing.proofs.Steps.{table, confirm-tells, tuple-tells, reserve-tells, run-listable}
+use Rattle.listing.proofs.Texts.{accepted-text, refused-text}
 
 -- what the listing of a recording's units tells: of one unit its confirmation, of two the tuple vote, of four the reserve vote
 abbrev pub confirmTable : Header → List ℕ → Answers
@@ -93,7 +99,7 @@ module _ (s : List ℕ) (done : readOf false s .answer ≡ Done) where
   two-listable x y =
       run-listable tupleRun.stepped tupleRun.leaves (tupleSteps.Sound (h .n)) (λ (w : ℕ × ℕ). Unit {0}) (λ t w g f. tupleSteps.sound-next (h .n) t g (w .0) (w .1)) (0, 0)
       h run Pair tupleRun.shownWord tupleRun.shownMark tupleRun.shownMask (λ t w g f. tuple-tells (h .n) t (w .0) (w .1) g)
-      (tuple.fresh (h .n) (h .need) (h .word)) (zip (unit s h 1) (unit s h 2)) start (λ i l. tt) (zip-length (unit s h 1) (unit s h 2) (same x y) ∙ x .whole)
+      (tuple.fresh (h .n) (h .need) (h .word)) (zip (unit s h 1) (unit s h 2)) start (λ i l. tt) (two-long (unit s h 1) (unit s h 2) (x .whole) (y .whole))
 
   four-listable :
       (units : (Column h (unit s h 1)) × (Column h (unit s h 2)) × (Column h (unit s h 3)) × (Column h (unit s h 4)))
@@ -105,7 +111,7 @@ module _ (s : List ℕ) (done : readOf false s .answer ≡ Done) where
       (reserve.fresh (h .n) (h .need) (h .word)) xs
       (record { width = refl; counted = run .counted; wide = run .wide; small = omega arith; word-in = run .word-in })
       (nowhere (outsideFour (h .n)) xs ((0, 0), (0, 0)) (four-in h run units))
-      (four-length (unit s h 1) (unit s h 2) (unit s h 3) (unit s h 4) (same (units .0) (units .1)) (same (units .0) (units .2)) (same (units .0) (units .3)) ∙ units .0 .whole)
+      (four-long (unit s h 1) (unit s h 2) (unit s h 3) (unit s h 4) (units .0 .whole) (units .1 .whole) (units .2 .whole) (units .3 .whole))
 
   pub table-listable : Listable (tableOf s)
   table-listable = ⊎-elim by-one (⊎-elim by-two by-four) (one-two-four (h .units) (ok .shape .head .units-known)) where
@@ -127,6 +133,56 @@ module _ (s : List ℕ) (done : readOf false s .answer ≡ Done) where
 pub same-answers : (s s′ : List ℕ) → readOf false s .answer ≡ Done → readOf false s′ .answer ≡ Done → textOf s ≡ textOf s′ → tableOf s ≡ tableOf s′
 same-answers s s′ d d′ e = listing-inj (tableOf s) (tableOf s′) (table-listable s d) (table-listable s′ d′) (sym (text-listed s d) ∙ e ∙ text-listed s′ d′)
 
--- and whether it was accepted
-pub never-both : (s s′ : List ℕ) (number sample : ℕ) → readOf false s .answer ≡ Done → readOf false s′ .answer ≡ RunRefused number sample → textOf s ≡ textOf s′ → ⊥
+-- and no refused recording has the text of an accepted one
+never-both :
+    (s s′ : List ℕ) (number sample : ℕ) → readOf false s .answer ≡ Done → readOf false s′ .answer ≡ Refused number sample → textOf s ≡ textOf s′ → ⊥
 never-both s s′ number sample d r e = refused-apart number sample (tableOf s) (sym (refused-text s′ number sample r) ∙ sym e ∙ text-listed s d)
+
+-- a table whose numbers are all m at the most gives none above it
+allUpTo : ℕ → List Row → Bool
+allUpTo m [] = true
+allUpTo m (k when b ∷ rows) = leb k m && allUpTo m rows
+
+first-most : (m : ℕ) (rows : List Row) → allUpTo m rows ≡ true → first rows ≤ m
+unfolding first allUpTo
+first-most m [] u = omega arith
+first-most m (k when b ∷ rows) u = let p = and-both (leb k m) (allUpTo m rows) u in go b (leb-true k m (p .0)) (first-most m rows (p .1)) where
+  go : (b : Bool) → k ≤ m → first rows ≤ m → (if b then k else first rows) ≤ m
+  go true h l = h
+  go false h l = l
+
+-- so a refusal's number is 12 at the most; and its sample, where 6 is given, is one of few
+module _ (s : List ℕ) (number sample : ℕ) (refused : readOf false s .answer ≡ Refused number sample) where
+  number-most : number ≤ 12
+  unfolding readOf allUpTo
+  number-most =
+      let own = own-number runNumber (first (rowsOf false s)) (notRun (firstWhere (outsideAt s (headerOf s)) (numbers (headerOf s)))) Done (λ k. refl) refl in
+      omega (arith, own, ap runNumber refused, first-most 12 (rowsOf false s) refl)
+
+  sample-most : sample ≤ 2048
+  sample-most = go (eqb number 6) refl where
+    go : (b : Bool) → eqb number 6 ≡ b → sample ≤ 2048
+    go true e =
+        let six = ap runNumber refused ∙ eqb-true number 6 e in
+        let few = ltb-false 2048 (headerOf s .samples) (read-exactly false s 6 .0 six .1 .1 .0) in
+        omega (arith, read-six false s six .there, list-length (λ i. i) (headerOf s .samples), ap runSample refused)
+    go false e = omega (arith, read-others false s (λ six. eqb-false number 6 e (sym (ap runNumber refused) ∙ six)), ap runSample refused)
+
+-- refused recordings of one text are refused with one number, at one sample
+same-refusal :
+    (s s′ : List ℕ) (number sample number′ sample′ : ℕ) → readOf false s .answer ≡ Refused number sample → readOf false s′ .answer ≡ Refused number′ sample′
+    → textOf s ≡ textOf s′ → (number ≡ number′) × (sample ≡ sample′)
+same-refusal s s′ number sample number′ sample′ r r′ e =
+    refused-inj
+    (omega (arith, number-most s number sample r)) (omega (arith, number-most s′ number′ sample′ r′))
+    (omega (arith, sample-most s number sample r)) (omega (arith, sample-most s′ number′ sample′ r′))
+    (sym (refused-text s number sample r) ∙ e ∙ refused-text s′ number′ sample′ r′)
+
+-- THE TEXT TELLS THE READING: recordings of one text are both accepted, or both refused with one number at one sample
+pub same-reading : (s s′ : List ℕ) → textOf s ≡ textOf s′ → readOf false s .answer ≡ readOf false s′ .answer
+same-reading s s′ e = go (readOf false s .answer) (readOf false s′ .answer) refl refl where
+  go : (a a′ : RunAnswer) → readOf false s .answer ≡ a → readOf false s′ .answer ≡ a′ → a ≡ a′
+  go Done Done d d′ = refl
+  go Done (Refused number sample) d r = absurd (never-both s s′ number sample d r e)
+  go (Refused number sample) Done r d = absurd (never-both s′ s number sample d r (sym e))
+  go (Refused number sample) (Refused number′ sample′) r r′ = let q = same-refusal s s′ number sample number′ sample′ r r′ e in cc
