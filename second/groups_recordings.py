@@ -80,8 +80,8 @@ def damaged_pairs():
 
 
 def other_lengths():
-    """Cut short at every byte of a small one; too long by 1 and by 4; the same where the
-    header is damaged too."""
+    """Cut short at every byte of a small one, and inside each column; too long by 1 and by 4;
+    the same where the header is damaged too."""
     header, columns = small(1)
     whole = recording(header, columns)
     for length in range(len(whole)):
@@ -91,6 +91,9 @@ def other_lengths():
         for values in [header] + list(replaced(header, [(0, 0), (2, 2049), (3, 0), (4, 0)])):
             data = recording(values, columns)
             yield from (data + b'\0', data + b'\0\0\0\0', data[:-1], data[:-4])
+        # inside each column: two fields of four bytes each
+        whole = recording(header, columns)
+        yield from (whole[:44 + 8 * place + cut] for place in range(units + 1) for cut in (1, 4, 7))
 
 
 def outside(chance):

@@ -1,17 +1,17 @@
 -- The text of a recording tells how it was read and what its run answered: recordings that differ in either have two texts.
 use mathlib.Core.Path.{_≡_, refl, sym, ap, _∙_}
-use mathlib.Core.Bool.{Bool, true, false, _&&_}
-use mathlib.Core.List.{List, [], _∷_, zip}
+use mathlib.Core.Bool.{Bool, true, false}
+use mathlib.Core.List.{List, zip}
 use mathlib.Core.Logic.{⊎-elim}
 use Prim.Native.Nat.{ℕ, _≤_}
 use native.Mathlib.Omega.{arith}
-use lib.Dec.{eqb, leb}
-use borrow.Author.Tests.{leb-true, ltb-false, eqb-true, eqb-false, eq-eqb, ne-eqb}
+use lib.Dec.{eqb}
+use borrow.Author.Tests.{ltb-false, eqb-true, eqb-false, eq-eqb, ne-eqb}
 use Rattle.rules.specs.Choose.{if_then_else_}
 use Rattle.rules.specs.Limits.{outside}
-use Rattle.rules.specs.Table.{Row, _when_, first}
+use Rattle.rules.specs.Table.{first}
 use Rattle.rules.proofs.Signals.{list-length}
-use Rattle.rules.proofs.Tables.{and-both, own-number}
+use Rattle.rules.proofs.Tables.{own-number, allUpTo, first-most}
 use Rattle.trace.specs.Answers.{runNumber, runSample, notRun}
 use Rattle.trace.specs.Samples.{firstWhere, outsideFour}
 use Rattle.trace.specs.declared.RunAnswer.{RunAnswer}
@@ -137,19 +137,6 @@ same-answers s s′ d d′ e = listing-inj (tableOf s) (tableOf s′) (table-lis
 never-both :
     (s s′ : List ℕ) (number sample : ℕ) → readOf false s .answer ≡ Done → readOf false s′ .answer ≡ Refused number sample → textOf s ≡ textOf s′ → ⊥
 never-both s s′ number sample d r e = refused-apart number sample (tableOf s) (sym (refused-text s′ number sample r) ∙ sym e ∙ text-listed s d)
-
--- a table whose numbers are all m at the most gives none above it
-allUpTo : ℕ → List Row → Bool
-allUpTo m [] = true
-allUpTo m (k when b ∷ rows) = leb k m && allUpTo m rows
-
-first-most : (m : ℕ) (rows : List Row) → allUpTo m rows ≡ true → first rows ≤ m
-unfolding first allUpTo
-first-most m [] u = omega arith
-first-most m (k when b ∷ rows) u = let p = and-both (leb k m) (allUpTo m rows) u in go b (leb-true k m (p .0)) (first-most m rows (p .1)) where
-  go : (b : Bool) → k ≤ m → first rows ≤ m → (if b then k else first rows) ≤ m
-  go true h l = h
-  go false h l = l
 
 -- so a refusal's number is 12 at the most; and its sample, where 6 is given, is one of few
 module _ (s : List ℕ) (number sample : ℕ) (refused : readOf false s .answer ≡ Refused number sample) where

@@ -5,8 +5,8 @@ use mathlib.Core.List.{List, [], _∷_, _++_, List·Memᴰ, List·Memᴰ·head, 
 use mathlib.Core.Bool.{Bool, true, false, _&&_, _||_, true≢false, false≢true}
 use Prim.Native.Nat.{ℕ, _<_, _≤_}
 use native.Mathlib.Omega.{arith}
-use lib.Dec.{ltb, eqb}
-use borrow.Author.Tests.{ltb-true, eqb-true, eqb-false, ne-eqb}
+use lib.Dec.{ltb, leb, eqb}
+use borrow.Author.Tests.{ltb-true, leb-true, eqb-true, eqb-false, ne-eqb}
 use Rattle.rules.specs.Choose.{if_then_else_}
 use Rattle.rules.specs.Table.{Row, _when_, first, answer, numbered, rising, has, Given, orElse, through}
 
@@ -139,3 +139,16 @@ module _ (rows later : List Row) (u : numbered rows ≡ true) where
 pub one-more : (rows : List Row) → numbered rows ≡ true → (k : ℕ) (b : Bool) → first (rows ++ (k when b ∷ [])) ≡ orElse (first rows) k b
 unfolding first
 one-more rows u k b = joined rows (k when b ∷ []) u
+
+-- a table whose numbers are all m at the most gives none above it
+unfoldable pub allUpTo : ℕ → List Row → Bool
+allUpTo m [] = true
+allUpTo m (k when b ∷ rows) = leb k m && allUpTo m rows
+
+pub first-most : (m : ℕ) (rows : List Row) → allUpTo m rows ≡ true → first rows ≤ m
+unfolding first allUpTo
+first-most m [] u = omega arith
+first-most m (k when b ∷ rows) u = let p = and-both (leb k m) (allUpTo m rows) u in go b (leb-true k m (p .0)) (first-most m rows (p .1)) where
+  go : (b : Bool) → k ≤ m → first rows ≤ m → (if b then k else first rows) ≤ m
+  go true h l = h
+  go false h l = l

@@ -12,7 +12,8 @@ use lib.Pow.{pow-pos, pow-mono, shr-lt, shr-shr}
 use lib.Dec.{ltb, eqb}
 use borrow.Author.Tests.{lt-ltb, le-ltb, ltb-true, ltb-false, eq-eqb, ne-eqb, not-false, not-true}
 use Rattle.rules.specs.Bits.{bit, Within}
-use Rattle.rules.specs.Limits.{outside}
+use Rattle.rules.specs.Limits.{badWidth, outside}
+use Rattle.rules.proofs.Ranges.{width-range}
 
 inside-lt : (n w : ℕ) → outside n w ≡ false → w < 2 ^ n
 inside-lt n w e = ltb-true w (2 ^ n) (not-false (ltb w (2 ^ n)) e)
@@ -79,6 +80,10 @@ outside-or n a b = go (outside n a) (outside n b) refl refl where
 -- the word with no bit is inside every width
 pub zero-inside : (n : ℕ) → outside n 0 ≡ false
 zero-inside n = lt-inside n 0 (pow-pos n)
+
+-- a word inside a width is one of 32 bits
+pub below : (n w : ℕ) → badWidth n ≡ false → outside n w ≡ false → w < 2 ^ 32
+below n w wide inside = let m : 2 ^ n ≤ 2 ^ 32 = pow-mono (width-range n wide .1) in omega (arith, inside-lt n w inside)
 
 -- a tuple of n signals is known by its signals: signal i + 1 is signal i of the word's other signals
 next-signal : (i w : ℕ) → bit (suc i) w ≡ bit i (w / 2)

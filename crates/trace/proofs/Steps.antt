@@ -2,7 +2,7 @@
 -- nothing at each sample equals the public steps that test everything, and what no step looks at changes no run.
 use mathlib.Core.Path.{_≡_, refl, ap}
 use mathlib.Core.List.{List, [], _∷_, _++_, map}
-use Prim.Native.Nat.{ℕ, suc, _<_}
+use Prim.Native.Nat.{ℕ, zero, suc, _<_}
 use native.Mathlib.Omega.{arith}
 use lib.ListN.{length, getD}
 use Rattle.trace.specs.Trace.{trace, left}
@@ -34,6 +34,21 @@ module _ {S X T : Type 0} (core step : S → X → T) (next : T → S) (Good : S
   agree Fine same keeps d s xs g fine =
       alike (λ (x y : X). Fine x × (x ≡ y)) (λ s x y g like. rw (← like .1) (same s x g (like .0))) (λ s x y g like. keeps s x g (like .0))
       d s xs xs g refl (λ i h. (fine i h, refl))
+
+-- what every step from a good state on a fine sample shows is what a column of the run holds
+module _
+    {S X T : Type 0} (step : S → X → T) (next : T → S) (Good : S → Type 0) (Fine : X → Type 0)
+    (keeps : (s : S) (x : X) → Good s → Fine x → Good (next (step s x))) (d : X) where
+  pub column-shows :
+      (shown : T → ℕ) (P : ℕ → Type 0) → ((s : S) (x : X) → Good s → Fine x → P (shown (step s x)))
+      → (s : S) (xs : List X) → Good s → ((i : ℕ) → i < length xs → Fine (getD xs i d))
+      → (i : ℕ) → i < length (map shown (trace step next s xs)) → P (getD (map shown (trace step next s xs)) i 0)
+  unfolding trace
+  column-shows shown P shows s [] g fine i l = absurd (let z : i < 0 = l in omega arith)
+  column-shows shown P shows s (x ∷ xs) g fine zero l = shows s x g (fine 0 (omega arith))
+  column-shows shown P shows s (x ∷ xs) g fine (suc i) l =
+      column-shows shown P shows (next (step s x)) xs (keeps s x g (fine 0 (omega arith))) (λ j m. fine (suc j) (omega arith)) i
+      (let z : suc i < suc (length (map shown (trace step next (next (step s x)) xs))) = l in omega arith)
 
 -- a run has a step for each sample
 pub trace-length : {S X T : Type 0} (step : S → X → T) (next : T → S) (s : S) (xs : List X) → length (trace step next s xs) ≡ length xs

@@ -1,21 +1,48 @@
--- What the clauses of a tuple keep, alarm or not: the width, N, and what the voters left.
-use mathlib.Core.Path.{_≡_, refl}
+-- What the clauses of a tuple keep, alarm or not: the width, N, what the voters left, and as the output the word that is shown.
+use mathlib.Core.Path.{_≡_, refl, _∙_}
 use mathlib.Core.Bool.{Bool, true, false, not}
-use Prim.Native.Nat.{ℕ}
+use Prim.Native.Nat.{ℕ, _≤_}
+use native.Mathlib.Omega.{arith}
 use lib.Dec.{eqb}
 use Rattle.rules.specs.Choose.{if_then_else_}
 use Rattle.confirm.specs.Confirm as confirm
-use Rattle.confirm.proofs.Clauses.{same-sizes as confirm-sizes}
+use Rattle.confirm.specs.Answers as confirmAnswers
+use Rattle.confirm.specs.declared.ConfirmAnswer.{ConfirmAnswer}
+use Rattle.confirm.specs.declared.ConfirmAnswer.the-variants.{Confirmed, Held, Refused}
+use Rattle.confirm.proofs.Clauses.{same-sizes as confirm-sizes, shown-stays as confirm-stays, marks-few as confirm-marks}
 use Rattle.tuple.specs.declared.Tuple.{Tuple}
 use Rattle.tuple.specs.declared.TupleStep.{TupleStep}
 use Rattle.tuple.specs.declared.Voters.{Voters}
-use Rattle.tuple.specs.Tuple.{width, voteNeed, votersOf, alarm, confirms, clauses}
+use Rattle.tuple.specs.Tuple.{width, voteNeed, votersOf, alarm, confirmedAs, confirms, clauses}
+use Rattle.tuple.specs.Answers.{wordOf, markOf}
+use Rattle.tuple.specs.Run.{shownWord, shownMark}
 
 -- the decision, of any test
 abbrev pub byTest : Tuple → Voters → Bool → TupleStep
 byTest s v alarmed = if alarmed then alarm s v else confirms v (confirm.clauses (s .confirm) (v .word))
 
+-- what confirmation answers the tuple vote shows as it is
+confirmed-as : (x : ConfirmAnswer) → (wordOf (confirmedAs x) ≡ confirmAnswers.wordOf x) × (markOf (confirmedAs x) ≡ confirmAnswers.markOf x)
+confirmed-as (Confirmed w) = (refl, refl)
+confirmed-as (Held w) = (refl, refl)
+confirmed-as (Refused k) = (refl, refl)
+
 module _ (s : Tuple) (a b : ℕ) where
+  -- the word that is shown is the output that stays, alarm or not
+  pub shown-stays : shownWord (clauses s a b) ≡ clauses s a b .state .confirm .output
+  unfolding clauses
+  shown-stays = go (not (eqb (votersOf s a b .mask) 0)) where
+    go : (p : Bool) → let t = byTest s (votersOf s a b) p in shownWord t ≡ t .state .confirm .output
+    go true = refl
+    go false = confirmed-as (confirm.clauses (s .confirm) (votersOf s a b .word) .answer) .0 ∙ confirm-stays (s .confirm) (votersOf s a b .word)
+
+  pub marks-few : shownMark (clauses s a b) ≤ 2
+  unfolding clauses
+  marks-few = go (not (eqb (votersOf s a b .mask) 0)) where
+    go : (p : Bool) → shownMark (byTest s (votersOf s a b) p) ≤ 2
+    go true = omega arith
+    go false = rw (confirmed-as (confirm.clauses (s .confirm) (votersOf s a b .word) .answer) .1) (confirm-marks (s .confirm) (votersOf s a b .word))
+
   pub same-sizes : (width (clauses s a b .state) ≡ width s) × (voteNeed (clauses s a b .state) ≡ voteNeed s)
   unfolding clauses
   same-sizes = go (not (eqb (votersOf s a b .mask) 0)) where

@@ -2,7 +2,7 @@
 -- is shown, and stays, is the last agreed one. The width and N stay.
 use mathlib.Core.Path.{_≡_, refl}
 use mathlib.Core.Bool.{Bool, true, false}
-use Prim.Native.Nat.{ℕ, _+_, _-_}
+use Prim.Native.Nat.{ℕ, _+_, _-_, _≤_}
 use native.Mathlib.Omega.{arith}
 use lib.Dec.{ltb, eqb}
 use borrow.Author.Tests.{eq-eqb}
@@ -54,6 +54,15 @@ module _ (s : Vote) where
     go false true r = refl
     go false false true = refl
     go false false false = refl
+
+  pub marks-few : (a b : ℕ) (reset : Bool) → shownMark (clauses s a b reset) ≤ 2
+  unfolding clauses
+  marks-few a b reset = go (eqb a b) reset (ltb (s .count) (s .need - 1)) where
+    go : (p q r : Bool) → shownMark (byTests s a p q r) ≤ 2
+    go true q r = omega arith
+    go false true r = omega arith
+    go false false true = omega arith
+    go false false false = omega arith
 
   pub same-sizes : (a b : ℕ) (reset : Bool) → (clauses s a b reset .state .n ≡ s .n) × (clauses s a b reset .state .need ≡ s .need)
   unfolding clauses
