@@ -11,24 +11,18 @@ use Rattle.rules.proofs.Width.{below}
 use Rattle.trace.specs.Samples.{outsideFour}
 use Rattle.trace.specs.Trace.{trace}
 use Rattle.trace.proofs.Steps.{trace-length, column-shows}
-use Rattle.confirm.specs.Answers as confirmAnswers
 use Rattle.confirm.specs.Confirm as confirm
 use Rattle.confirm.specs.Run as confirmRun
 use Rattle.confirm.specs.declared.Confirm.{Confirm as ConfirmState}
 use Rattle.confirm.proofs.Clauses as confirmClauses
 use Rattle.confirm.proofs.Stepwise as confirmSteps
-use Rattle.tuple.specs.Answers as tupleAnswers
 use Rattle.tuple.specs.Tuple as tuple
 use Rattle.tuple.specs.Run as tupleRun
 use Rattle.tuple.specs.declared.Tuple.{Tuple}
 use Rattle.tuple.proofs.Clauses as tupleClauses
 use Rattle.tuple.proofs.Masks.{mask-inside}
 use Rattle.tuple.proofs.Sound as tupleSteps
-use Rattle.vote.specs.Vote as vote
-use Rattle.vote.specs.Run as voteRun
-use Rattle.vote.proofs.Clauses as voteClauses
 use Rattle.vote.proofs.Stepwise as voteSteps
-use Rattle.reserve.specs.Reserve as reserve
 use Rattle.reserve.specs.Run as reserveRun
 use Rattle.reserve.specs.declared.Reserve.{Reserve as ReserveState}
 use Rattle.reserve.proofs.Clauses as reserveClauses
