@@ -141,6 +141,7 @@ def recording_room():
     data += groups_recordings.damaged_pairs()
     data += groups_recordings.other_lengths()
     data += groups_recordings.outside(chance)
+    data += groups_recordings.beyond_longest(chance)
     # The settled example first; lent slices of other lengths last.
     return cases(examples.calls('recording') + [read_line(one) for one in data]
                  + list(groups_recordings.lent_otherwise()))
@@ -160,6 +161,8 @@ def listing_room():
     data += groups_recordings.damaged_headers()
     data += groups_recordings.outside(chance)
     data += [b'', data[0][:43], data[0] + b'\0']
+    data += groups_recordings.other_lengths()
+    data += groups_recordings.beyond_longest(chance)
     # The settled example, the paper's own listing, first.
     return cases(examples.calls('listing') + [listing_line(one) for one in data])
 

@@ -48,6 +48,12 @@ def too_many(chance):
         yield recording(fields(units, 2049, 3, 2, 5), [])
 
 
+def beyond_longest(chance):
+    """The longest recording there is, and a byte more, and 20,000 more."""
+    longest = long_recording(4, 2048, chance)
+    yield from (longest, longest + b'\0', longest + b'\0' * 20000)
+
+
 def header_damages(units):
     """(place, value) for every field of the header."""
     header = small(units)[0]

@@ -9,14 +9,13 @@ use lib.Dec.{ltb, eqb}
 use borrow.Author.Tests.{le-ltb, ltb-true}
 use Rattle.rules.specs.Limits.{badCount, badWidth, tooLong, outside}
 use Rattle.rules.specs.Table.{first}
-use Rattle.rules.proofs.Readings.{Makes, Runs, makes, accepted, run-makes}
+use Rattle.rules.proofs.Readings.{Makes, Runs, makes, run-makes}
 use Rattle.trace.specs.declared.RunAnswer.the-variants.{Done}
 use Rattle.trace.specs.Samples.{somewhere}
 use Rattle.trace.proofs.Runs.{answer-done}
 use Rattle.trace.proofs.Samples.{nowhere}
 use Rattle.trace.proofs.Steps.{agree}
 use Rattle.confirm.specs.declared.Confirm.{Confirm}
-use Rattle.confirm.specs.declared.ConfirmMade.{ConfirmMade}
 use Rattle.confirm.specs.Confirm.{fresh, clauses, made, notMade, madeOf, stepOf}
 use Rattle.confirm.specs.Run.{leaves, steps, publicSteps, shownWord, shownMark, shownCount, unequal, answerOf, Ran, Stepwise}
 use Rattle.confirm.proofs.Clauses.{byTests}
@@ -47,11 +46,7 @@ sound-next n s x g e = go (not (eqb x (s .input))) (ltb (s .count) (s .need - 1)
   go false true q = kept (s .output) (s .count + 1) (g .output-in) (omega (arith, ltb-true (s .count) (s .need - 1) q))
   go false false q = kept x (s .count) e (g .small)
 
--- a constructor that shows no refusal has tested all, and makes the fresh state
-pub made-taken : (n need word : ℕ) → madeOf n need word .refusal ≡ 0 → Makes (badCount need) n word
-unfolding madeOf
-made-taken n need word = accepted (badCount need) n word (λ (m : ConfirmMade). m .refusal) notMade (made n need word) (λ k. refl) refl
-
+-- a constructor that refuses nothing makes the fresh state
 pub made-fresh : (n need word : ℕ) → Makes (badCount need) n word → madeOf n need word ≡ made n need word
 unfolding madeOf
 made-fresh n need word = makes (badCount need) n word notMade (made n need word)

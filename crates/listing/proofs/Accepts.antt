@@ -44,7 +44,7 @@ module _ (h : Header) (run : Runnable h) where
     abbrev confirm-taken : List ConfirmStep
     confirm-taken = confirmRun.steps (confirm.fresh (h .n) (h .need) (h .word)) one
 
-    confirm-done : confirmRun.answerOf (h .n) (h .need) (h .word) one words marks counts ≡ Done
+    pub confirm-done : confirmRun.answerOf (h .n) (h .need) (h .word) one words marks counts ≡ Done
     confirm-done =
         let e = x .whole in
         done-when _ _ _ _ _ outside one
@@ -61,7 +61,7 @@ module _ (h : Header) (run : Runnable h) where
     abbrev pair-taken : List TupleStep
     pair-taken = tupleRun.steps (tuple.fresh (h .n) (h .need) (h .word)) (zip one two)
 
-    pair-done : tupleRun.answerOf (h .n) (h .need) (h .word) one two words masks marks ≡ Done
+    pub pair-done : tupleRun.answerOf (h .n) (h .need) (h .word) one two words masks marks ≡ Done
     pair-done =
         let e = x .whole in
         done-when _ _ _ _ _ outsidePair (zip one two)
@@ -90,7 +90,7 @@ module _ (h : Header) (run : Runnable h) where
         (neither (outside (h .n)) (outside (h .n)) three four q (units .2 .inside) (units .3 .inside))
 
     module _ {words marks lasts : List ℕ} (r : Room h words marks lasts) where
-      reserve-done : reserveRun.answerOf (h .n) (h .need) (h .word) one two three four words marks ≡ Done
+      pub reserve-done : reserveRun.answerOf (h .n) (h .need) (h .word) one two three four words marks ≡ Done
       reserve-done =
           let e = units .0 .whole in
           let few = run .few in

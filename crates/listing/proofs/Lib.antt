@@ -3,6 +3,7 @@ pub mod Bounds
 pub mod Columns
 pub mod Joined
 pub mod Lines
+pub mod Never
 pub mod Pairs
 pub mod ReadBack
 pub mod Reading

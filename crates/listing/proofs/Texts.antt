@@ -2,16 +2,17 @@
 use mathlib.Core.Path.{_≡_, refl, ap, _∙_}
 use mathlib.Core.Bool.{false}
 use mathlib.Core.List.{List}
-use Prim.Native.Nat.{ℕ, _≤_}
+use Prim.Native.Nat.{ℕ, _≤_, _<_}
 use native.Mathlib.Nat.{zero-add}
 use native.Mathlib.Omega.{arith}
-use lib.ListN.{length}
+use lib.ListN.{length, take}
 use borrow.Author.Tests.{le-ltb}
 use Rattle.rules.proofs.Ranges.{count-range, width-range}
 use Rattle.rules.proofs.Signals.{list-length}
 use Rattle.trace.specs.declared.RunAnswer.{RunAnswer}
 use Rattle.trace.specs.declared.RunAnswer.the-variants.{Done, Refused as RunRefused}
 use Rattle.recording.specs.Recording.{headerOf, sampleAt, readOf}
+use Rattle.recording.proofs.Longer.{cut, long-refused}
 use Rattle.recording.proofs.Taken.{Accepted, taken}
 use Rattle.text.specs.Put.{laid, Writes}
 use Rattle.text.proofs.Laws.{laid-length}
@@ -43,6 +44,11 @@ module _ (s : List ℕ) where
       let h = headerOf s in
       let long : (k : ℕ) → length (unit s h k) ≡ h .samples = λ k. list-length (sampleAt s (h .samples) k) (h .samples) in
       rw (accepted-text (taken false s e) e) (units-shown h P each (unit s h 1) (unit s h 2) (unit s h 3) (unit s h 4) (long 1) (long 2) (long 3) (long 4))
+
+  -- input beyond the longest recording has the text that its first bytes have, if there is one more of them than that
+  pub text-cut : (c : ℕ) → 41004 < c → c ≤ length s → textOf (take c s) ≡ textOf s
+  unfolding textOf
+  text-cut c m l = rw (cut false s c m l, ← long-refused false s (omega arith))
 
   -- every text fits
   pub text-most : length (textOf s) ≤ longest

@@ -8,7 +8,7 @@ use denote.Ref.{now}
 use contract.Lifetimes.{Lfts}
 use lib.ListN.{length, getD}
 use borrow.Author.Tests.{le-ltb}
-use Rattle.rules.specs.Limits.{badCount, outside}
+use Rattle.rules.specs.Limits.{badCount, badWidth, outside}
 use Rattle.rules.proofs.Readings.{Makes}
 use Rattle.rules.proofs.Width.{lt-inside}
 use Rattle.rules.proofs.Signals.{bit-small, word-small}
@@ -19,7 +19,7 @@ use Rattle.trace.proofs.Samples.{nowhere-if}
 use Rattle.trace.proofs.Steps.{agree}
 use Rattle.confirm.specs.Confirm.{clauses, madeOf, stepOf}
 use Rattle.confirm.specs.Run.{leaves, steps, publicSteps, shownWord, unequal, answerOf}
-use Rattle.confirm.proofs.Stepwise.{Sound, made-taken, made-fresh, step-is-clauses, sound-next}
+use Rattle.confirm.proofs.Stepwise.{Sound, made-fresh, step-is-clauses, sound-next}
 use Rattle.confirm.proofs.run.Reads as run
 use Rattle.plant.specs.Plant.{Watch, freshOf, There, Formed, Observed, TrulyShown, outputs}
 use Rattle.plant.specs.Calls.{Means, RunOn}
@@ -38,10 +38,14 @@ run-shown κs w o a z e p on done =
 samples-inside : (w : Watch) → Formed w → (k : ℕ) → There w k → outside (w .n) (getD (w .samples) k 0) ≡ false
 samples-inside w f k l = lt-inside (w .n) _ (rw (f k l) (word-small _ (λ i. bit-small i _) (w .n)))
 
--- where the constructor takes the watch's n, N and initial word
-module _ (w : Watch) (o : Observed w) (taken : madeOf (w .n) (w .need) (w .initial) .refusal ≡ 0) where
+-- where n and N are not refused; the initial word is one that the plant showed
+module _ (w : Watch) (o : Observed w) (counted : badCount (w .need) ≡ false) (wide : badWidth (w .n) ≡ false) where
   none-refused : Makes (badCount (w .need)) (w .n) (w .initial)
-  none-refused = made-taken (w .n) (w .need) (w .initial) taken
+  none-refused = record {
+    counted = counted;
+    wide = wide;
+    word-in = lt-inside (w .n) (w .initial) (rw (o .rests 0 (omega arith)) at (o .fits 0));
+  }
 
   sound : Sound (w .n) (freshOf w)
   sound = record {

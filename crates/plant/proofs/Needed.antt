@@ -1,4 +1,4 @@
--- No premise of demand 3 is idle: for each there is a watch in which all others hold, that one is missed by one, and an output is wrong.
+-- No premise of demand 3 is idle: for each there is a watch in which all others hold, that one is nearly met, and an output is wrong.
 use mathlib.Core.Path.{refl}
 use mathlib.Core.Logic.{Dec·and, Dec·not}
 use native.Mathlib.Omega.{arith}

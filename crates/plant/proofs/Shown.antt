@@ -5,8 +5,8 @@ use native.Mathlib.Decide.{decLt}
 use native.Mathlib.Nat.{add-suc, add-zero, suc-mul, zero-mul, mul-zero}
 use mathlib.Core.Path.{_≡_}
 use mathlib.Core.Logic.{dite}
-use Rattle.plant.specs.Plant.{Watch, There, Enough, GapLeast, Observed, ShownBy, TrulyShown, outputs}
-use Rattle.plant.specs.Weaker.{Sufficient}
+use Rattle.plant.specs.Plant.{Watch, There, Fits, GapLeast, GapMost, Formed, Late, Forward, Rests, Observed, ShownBy, TrulyShown, outputs}
+use Rattle.plant.specs.Weaker.{QuietReached, Sufficient}
 use Rattle.plant.proofs.Outputs.{outputs-shown}
 
 -- m gaps together are at least m·Tm
@@ -16,8 +16,8 @@ gaps w h (suc m) k l =
     let on : There w (suc (k + m)) = rw add-suc at l in
     rw (add-suc, suc-mul) (omega (arith, h (k + m) on, gaps w h m k (omega arith)))
 
--- so N of them outlast D
-outlasting : (w : Watch) → Enough w → GapLeast w → (k : ℕ) → There w (k + w .need) → w .taken k + w .d ≤ w .taken (k + w .need)
+-- so N of them last D, where N·Tm reaches it
+outlasting : (w : Watch) → w .d ≤ w .need * w .tm → GapLeast w → (k : ℕ) → There w (k + w .need) → w .taken k + w .d ≤ w .taken (k + w .need)
 outlasting w e h k l = omega (arith, gaps w h (w .need) k l)
 
 -- a product that exceeds a number has no factor 0
@@ -27,21 +27,30 @@ factors a b d l = (
   dite (decLt 0 b) (λ h. h) (λ none. let z : b ≡ 0 = omega arith in let nothing : a * b ≡ 0 = rw z (mul-zero a) in absurd (omega arith)),
 )
 
-pub sufficient : (w : Watch) → Observed w → Sufficient w (w .taken 0)
-sufficient w o = record {
-  counted = factors (w .need) (w .tm) (w .d) (omega (arith, o .enough)) .0;
-  outlasts = outlasting w (o .enough) (o .gap-least);
-  in-order = λ k l. omega (arith, o .gap-least k l);
-  fits = o .fits;
-  gap-most = o .gap-most;
-  formed = o .formed;
-  late = o .late;
-  forward = o .forward;
-  starts = o .rests (w .taken 0) (omega arith);
+-- in demand 3's own words: N at least 1, N·Tm that only reaches D, and a quiet gap that is only reached
+pub enough-reached :
+    (w : Watch) → 1 ≤ w .need → w .d ≤ w .need * w .tm → Fits w → GapLeast w → GapMost w → Formed w → Late w → Forward w → Rests w → QuietReached w
+    → Sufficient w (w .taken 0)
+enough-reached w some enough fits least most formed late forward rests quiet = record {
+  counted = some;
+  outlasts = outlasting w enough least;
+  in-order = λ k l. omega (arith, least k l);
+  fits = fits;
+  gap-most = most;
+  formed = formed;
+  late = late;
+  forward = forward;
+  starts = rests (w .taken 0) (omega arith);
   start-before = omega arith;
   start-recent = omega arith;
-  quiet = λ i s s′ il l a b. omega (arith, o .quiet i s s′ il l a b);
+  quiet = quiet;
 }
+
+pub sufficient : (w : Watch) → Observed w → Sufficient w (w .taken 0)
+sufficient w o =
+    enough-reached w (factors (w .need) (w .tm) (w .d) (omega (arith, o .enough)) .0) (omega (arith, o .enough))
+    (o .fits) (o .gap-least) (o .gap-most) (o .formed) (o .late) (o .forward) (o .rests)
+    (λ i s s′ il l a b. omega (arith, o .quiet i s s′ il l a b))
 
 pub truly-shown : (w : Watch) → Observed w → TrulyShown w (outputs w)
 truly-shown w o = outputs-shown w (w .taken 0) (sufficient w o)

@@ -1,4 +1,4 @@
--- A plant all of whose signals go on moving, each read with a delay of its own, for every n, N, Tm, TM, D and every length of trace.
+-- A plant all of whose signals go on moving, signal i read min(i, D) late, for every n, N, Tm, TM, D and every length of trace.
 use Prim.Native.Nat.{ℕ, suc, _+_, _-_, _*_, _/_, _%_, min}
 use Rattle.rules.specs.Bits.{bit}
 use Rattle.rules.specs.Signals.{asWord, asList}

@@ -51,7 +51,7 @@ Enough w = w .d < w .need * w .tm
 abbrev pub Fits : Watch → Type 0
 Fits w = (s : ℕ) → w .plant s < 2 ^ w .n
 
--- the gap between two samples of the trace is at least Tm
+-- the gap between a sample of the trace and the next is at least Tm
 abbrev pub GapLeast : Watch → Type 0
 GapLeast w = (k : ℕ) → There w (suc k) → w .taken k + w .tm ≤ w .taken (suc k)
 
@@ -107,7 +107,7 @@ pub record ShownBy (plant : ℕ → ℕ) (word instant age : ℕ) : Type 0 where
   pub recent : instant ≤ moment + age
   pub whole : plant moment ≡ word
 
--- the conclusion, of one word for each sample: each was shown by the plant within the age bound, n·N·TM + D
+-- the conclusion, of a list of words: word k was shown by the plant within the age bound, n·N·TM + D, of sample k
 abbrev pub TrulyShown : Watch → List ℕ → Type 0
 TrulyShown w words = (k : ℕ) → There w k → ShownBy (w .plant) (getD words k 0) (w .taken k) (ageOf w)
 

@@ -23,7 +23,8 @@ Holds quiet = Quiet
 abbrev pub AllBut : Premise → Watch → Type 0
 AllBut p w = (q : Premise) → q ≢ p → Holds q w
 
--- a premise that is missed by one: an instant, a bit (that samples show the plant has no such measure)
+-- a premise that is nearly met: missed by one instant or bit; `enough` and `quiet` by two, since missed by one is still enough; that
+-- samples show the plant has no such measure
 abbrev pub Nearly : Premise → Watch → Type 0
 Nearly enough w = w .d ≤ w .need * w .tm + 1
 Nearly fits w = (s : ℕ) → w .plant s < 2 ^ (w .n + 1)

@@ -3,6 +3,10 @@ use Prim.Native.Nat.{ℕ, suc, _+_, _≤_, _<_}
 use mathlib.Core.Path.{_≡_}
 use Rattle.plant.specs.Plant.{Watch, gapOf, There, Changes, Fits, GapMost, Formed, Late, Forward}
 
+-- two changes of one signal are the quiet gap apart, or more
+abbrev pub QuietReached : Watch → Type 0
+QuietReached w = (i s s′ : ℕ) → i < w .n → s < s′ → Changes w i s → Changes w i s′ → s + gapOf w ≤ s′
+
 -- `start` is a moment at which the plant showed the initial word
 pub record Sufficient (w : Watch) (start : ℕ) : Type 0 where
   -- N is not 0
@@ -19,5 +23,4 @@ pub record Sufficient (w : Watch) (start : ℕ) : Type 0 where
   pub starts : w .plant start ≡ w .initial
   pub start-before : start ≤ w .taken 0
   pub start-recent : w .taken 0 ≤ start + w .tM + w .d
-  -- two changes of one signal are the quiet gap apart, or more
-  pub quiet : (i s s′ : ℕ) → i < w .n → s < s′ → Changes w i s → Changes w i s′ → s + gapOf w ≤ s′
+  pub quiet : QuietReached w

@@ -52,14 +52,17 @@ number lent s l = go (eqb (first (headRows lent s)) 0) refl where
   go true e = too-long lent s l (eqb-true _ _ e)
   go false e = sym (head-decides lent s refl (eqb-false _ _ e))
 
+-- so it is refused, at sample 0
+pub long-refused : (lent : Bool) (s : List ℕ) → 41004 < length s → refusedAt (first (shapeRows lent s)) 0 ≡ readOf lent s
+long-refused lent s l = refused-early lent s refl some where
+  some : first (shapeRows lent s) ≡ 0 → ⊥
+  some e = go (eqb (first (headRows lent s)) 0) refl (sym (number lent s l) ∙ e) where
+    go : (b : Bool) → eqb (first (headRows lent s)) 0 ≡ b → (if b then 12 else first (headRows lent s)) ≡ 0 → ⊥
+    go true q z = omega arith
+    go false q z = eqb-false _ _ q z
+
 pub cut : (lent : Bool) (s : List ℕ) (c : ℕ) → 41004 < c → c ≤ length s → readOf lent (take c s) ≡ readOf lent s
 cut lent s c m l =
     let long : 41004 < length (take c s) = rw (length-take-le c s l) m in
     let same : first (shapeRows lent (take c s)) ≡ first (shapeRows lent s) = number lent (take c s) long ∙ rw (same-head lent s c (omega arith) l) (sym (number lent s (omega arith))) in
-    sym (refused-early lent (take c s) refl (some (take c s) long)) ∙ ap (λ (r : ℕ). refusedAt r 0) same ∙ refused-early lent s refl (some s (omega arith))
-  where
-    some : (t : List ℕ) → 41004 < length t → first (shapeRows lent t) ≡ 0 → ⊥
-    some t h e = go (eqb (first (headRows lent t)) 0) refl (sym (number lent t h) ∙ e) where
-      go : (b : Bool) → eqb (first (headRows lent t)) 0 ≡ b → (if b then 12 else first (headRows lent t)) ≡ 0 → ⊥
-      go true q z = omega arith
-      go false q z = eqb-false _ _ q z
+    sym (long-refused lent (take c s) long) ∙ ap (λ (r : ℕ). refusedAt r 0) same ∙ long-refused lent s (omega arith)
