@@ -10,7 +10,7 @@ use native.Mathlib.Nat.{add-mul-div-right, add-mul-mod-self-right, div-eq-of-lt,
 use lib.Dec.{lit<}
 use lib.ListN.{length, getD, set, drop, length-append, length-drop, List·getD-append}
 use lib.Pow.{pow-pos, pow-add}
-use lib.Seq.{drop-cons, set-at, getD-append-add, getD-at, getD-drop}
+use lib.Seq.{drop-cons, set-at, getD-append-add, getD-at, getD-drop, ext-getD}
 use Rattle.rules.specs.Bits.{bit}
 use Rattle.rules.specs.Signals.{asWord, asList, someBelow}
 use Rattle.rules.proofs.Tables.{or-neither}
@@ -96,6 +96,13 @@ module _ (f : ℕ → ℕ) where
         let e : i ≡ n + (i - n) = omega arith in
         let g = getD-append-add (asList n f) (drop n xs) (i - n) 0 in
         ap (λ (k : ℕ). getD (asList n f ++ drop n xs) k 0) e ∙ (rw (list-length n) at g) ∙ getD-drop n xs (i - n) 0 ∙ ap (λ (k : ℕ). getD xs k 0) (sym e)
+
+-- places that were copied from a list of as many are the list
+pub copied : (xs old : List ℕ) (n : ℕ) → length xs ≡ n → length old ≡ n → asList n (λ k. getD xs k 0) ++ drop n old ≡ xs
+copied xs old n e q =
+    let f : ℕ → ℕ = λ k. getD xs k 0 in
+    let same : length (asList n f ++ drop n old) ≡ n = places-length f old n (omega (arith, q)) ∙ q in
+    ext-getD 0 (asList n f ++ drop n old) xs (same ∙ sym e) (λ i l. let m : i < n = rw same at l in place-below f old n i m)
 
 module _ (f : ℕ → Bool) where
   pub some-none : false ≡ someBelow 0 f

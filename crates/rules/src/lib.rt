@@ -78,8 +78,14 @@ pub fn make_refusal(miscounted: bool, n: u32, word: u32) -> u32
 pub fn step_refusal(miscounted: bool, n: u32, outlying: bool, damaged: bool) -> u32
     ensures { λ r. ⌜ r ≡ first (stepRows miscounted n outlying damaged) ⌝ }
 {
-    let r = or_else(0, 1, miscounted);
-    let r = or_else(r, 2, bad_width(n));
-    let r = or_else(r, 6, outlying);
-    or_else(r, 7, damaged)
+    let misfit = bad_width(n);
+    let refused = miscounted | misfit | outlying | damaged;
+    // Most steps are taken: they need one test.
+    if refused {
+        let r = or_else(0, 1, miscounted);
+        let r = or_else(r, 2, misfit);
+        let r = or_else(r, 6, outlying);
+        return or_else(r, 7, damaged);
+    }
+    0
 }
