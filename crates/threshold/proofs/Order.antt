@@ -13,6 +13,8 @@ use lib.Ieee.{Float, nan, inf, fin, up, down, below, level, lt, eq, le, isNan}
 use lib.Ieee.Fits.{down-pos}
 use lib.Ieee.Positive.{through}
 use lib.Ieee.Scale.{finite}
+use Rattle.rules.specs.Choose.{if_then_else_}
+use Rattle.threshold.specs.Threshold.{lesser, greater}
 
 -- what `le` says of two signed numbers
 abbrev Le : Bool → ℕ → Bool → ℕ → Type 0
@@ -138,3 +140,21 @@ exceeds (inf false) (fin t k d) n f = refl
 exceeds (fin s m e) nan n f = absurd f
 exceeds (fin s m e) (inf t) n f = absurd f
 exceeds (fin s m e) (fin t k d) n f = opposite s (m * up e * down d) t (k * up d * down e)
+
+-- so the lesser and the greater of two finite readings may be told by `lt` as well
+number : (x : Float) → T (finite x) → isNan x ≡ false
+unfolding isNan
+number nan f = absurd f
+number (inf s) f = absurd f
+number (fin s m e) f = refl
+
+by-denial : (t : Bool) (x y : Float) → (if t then x else y) ≡ (if not t then y else x)
+by-denial true x y = refl
+by-denial false x y = refl
+
+module _ (a b : Float) (f : T (finite a)) (g : T (finite b)) where
+  pub lesser-is : (if lt b a then b else a) ≡ lesser a b
+  lesser-is = rw (exceeds a b (number a f) g) (by-denial (lt b a) b a)
+
+  pub greater-is : (if lt a b then b else a) ≡ greater a b
+  greater-is = rw (exceeds b a (number b g) f) (by-denial (lt a b) b a)

@@ -7,14 +7,14 @@ use native.Mathlib.Omega.{arith}
 use lib.Dec.{T}
 use lib.Ieee.{Float, binary64, sub, le, lt}
 use lib.Ieee.Scale.{finite}
-use borrow.Author.Tests.{not-false}
 use Rattle.rules.specs.Table.{first}
 use Rattle.rules.proofs.Tables.{or-neither}
 use Rattle.threshold.specs.declared.Readings.{Readings}
 use Rattle.threshold.specs.declared.Threshold.the-variants.{Agreed, Alarm, Refused}
-use Rattle.threshold.specs.Threshold.{nought, magnitudeOf, within, agrees, badReadings, medianOf, thresholdOf}
+use Rattle.threshold.specs.Threshold.{magnitudeOf, within, agrees, badReadings, medianOf, thresholdOf}
 use Rattle.threshold.specs.Promises.{Between, Agrees, Exceeds, Sound, Apart}
 use Rattle.threshold.proofs.Median.{mid-xy, mid-yz, mid-zx, mid-one}
+use Rattle.threshold.proofs.Noughts.{four-finite}
 use Rattle.threshold.proofs.Numbers.{sub-number, magnitude-number, finite-within}
 use Rattle.threshold.proofs.Order.{total, trans, exceeds}
 
@@ -46,16 +46,8 @@ module _ (r : Readings) where
 
   taken : badReadings r ≡ false → Taken
   taken e =
-      let p = or-neither (not (finite (r .x1)) || not (finite (r .x2)) || not (finite (r .x3)) || not (finite (r .tolerance))) (lt (r .tolerance) nought) e in
-      let q = or-neither (not (finite (r .x1)) || not (finite (r .x2)) || not (finite (r .x3))) (not (finite (r .tolerance))) (p .0) in
-      let s = or-neither (not (finite (r .x1)) || not (finite (r .x2))) (not (finite (r .x3))) (q .0) in
-      let u = or-neither (not (finite (r .x1))) (not (finite (r .x2))) (s .0) in
-      record {
-        finite1 = holds _ (not-false (finite (r .x1)) (u .0));
-        finite2 = holds _ (not-false (finite (r .x2)) (u .1));
-        finite3 = holds _ (not-false (finite (r .x3)) (s .1));
-        finite-tolerance = holds _ (not-false (finite (r .tolerance)) (q .1));
-      }
+      let f = four-finite r e in
+      record { finite1 = f .0; finite2 = f .1; finite3 = f .2; finite-tolerance = f .3 }
 
   to-refused : badReadings r ≡ true → thresholdOf r ≡ Refused 11
   unfolding thresholdOf first

@@ -1,6 +1,8 @@
 // The 2/3 threshold vote on readings (document 000, 6.1): one call, without a state.
 ghost use mathlib.Core.Path.{_≡_};
-ghost use lib.Ieee.Scale as scale;
+ghost use mathlib.Core.Bool.{_&&_};
+ghost use lib.Dec.{T};
+ghost use lib.Ieee.Scale.{finite};
 ghost use Rattle.threshold.specs.Threshold.{lesser, greater, magnitudeOf, within, badReadings, agrees, medianOf, thresholdOf};
 
 // Three readings and their tolerance.
@@ -18,24 +20,19 @@ pub enum Threshold {
     Refused(u32),
 }
 
-// Below the one infinity and above the other: a NaN is neither.
-fn finite(x: f64) -> bool
-    ensures { λ r. ⌜ r ≡ scale.finite x ⌝ }
-{
-    let top = 1.0 / 0.0;
-    (x < top) & (-top < x)
-}
-
+// Written so that each is one instruction: the same as the definition for all but a NaN.
 fn min(a: f64, b: f64) -> f64
-    ensures { λ r. ⌜ r ≡ lesser a b ⌝ }
+    requires { ⌜ T (finite a) × T (finite b) ⌝ }
+    ensures { λ r. ⌜ (r ≡ lesser a b) × T (finite r) ⌝ }
 {
-    if a <= b { a } else { b }
+    if b < a { b } else { a }
 }
 
 fn max(a: f64, b: f64) -> f64
-    ensures { λ r. ⌜ r ≡ greater a b ⌝ }
+    requires { ⌜ T (finite a) × T (finite b) ⌝ }
+    ensures { λ r. ⌜ (r ≡ greater a b) × T (finite r) ⌝ }
 {
-    if a >= b { a } else { b }
+    if a < b { b } else { a }
 }
 
 fn magnitude(d: f64) -> f64
@@ -52,15 +49,19 @@ fn close(a: f64, b: f64, tolerance: f64) -> bool
 }
 
 impl Readings {
+    // Nought times each is a nought, or a NaN where it is not finite: one test for all four.
+    fn all_finite(self) -> bool
+        ensures { λ r. ⌜ r ≡ finite (self .x1) && finite (self .x2) && finite (self .x3) && finite (self .tolerance) ⌝ }
+    {
+        let noughts = self.x1 * 0.0 + self.x2 * 0.0 + self.x3 * 0.0 + self.tolerance * 0.0;
+        noughts == 0.0
+    }
+
     // 11: one of the four is not finite, or the tolerance is below zero.
     fn bad(self) -> bool
         ensures { λ r. ⌜ r ≡ badReadings self ⌝ }
     {
-        !finite(self.x1)
-            | !finite(self.x2)
-            | !finite(self.x3)
-            | !finite(self.tolerance)
-            | (self.tolerance < 0.0)
+        !self.all_finite() | (self.tolerance < 0.0)
     }
 
     fn agree(self) -> bool
@@ -72,6 +73,7 @@ impl Readings {
     }
 
     fn median(self) -> f64
+        requires { ⌜ T (finite (self .x1)) × T (finite (self .x2)) × T (finite (self .x3)) ⌝ }
         ensures { λ r. ⌜ r ≡ medianOf self ⌝ }
     {
         let low = max(min(self.x1, self.x2), min(self.x2, self.x3));
