@@ -1,0 +1,5 @@
+mod Laws
+mod Unique
+mod UniqueOthers
+mod Phases
+mod ReadBack

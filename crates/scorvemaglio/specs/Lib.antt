@@ -1,0 +1,5 @@
+pub mod Lent
+pub mod States
+pub mod Voters
+pub mod Runs
+pub mod Others

@@ -1,0 +1,49 @@
+-- What the voters' constructors and steps promise for C: the same definitions, their states and answers as numbers.
+use Prim.Native.Nat.{ℕ}
+use mathlib.Core.List.{List, [], _∷_}
+use Rattle.rules.specs.Table.{orElse}
+use Rattle.confirm.specs.Answers as confirm
+use Rattle.confirm.specs.declared.ConfirmMade.{ConfirmMade}
+use Rattle.confirm.specs.declared.ConfirmStep.{ConfirmStep}
+use Rattle.vote.specs.Answers as vote
+use Rattle.vote.specs.declared.VoteMade.{VoteMade}
+use Rattle.vote.specs.declared.VoteStep.{VoteStep}
+use Rattle.tuple.specs.Answers as tuple
+use Rattle.tuple.specs.declared.TupleMade.{TupleMade}
+use Rattle.tuple.specs.declared.TupleStep.{TupleStep}
+use Rattle.reserve.specs.Reserve.{stepOf}
+use Rattle.reserve.specs.declared.ReserveMade.{ReserveMade}
+use Rattle.reserve.specs.declared.ReserveStep.{ReserveStep}
+use Rattle.scorvemaglio.specs.Lent.{Makes, Steps}
+use Rattle.scorvemaglio.specs.States.{confirmNumbers, voteNumbers, tupleNumbers, reserveNumbers, noPhase}
+
+-- a constructor writes the state that it made
+abbrev pub MakesConfirm : ConfirmMade → List ℕ → ℕ → List ℕ → Type 0
+MakesConfirm m = Makes (m .refusal) (confirmNumbers (m .state))
+
+abbrev pub MakesVote : VoteMade → List ℕ → ℕ → List ℕ → Type 0
+MakesVote m = Makes (m .refusal) (voteNumbers (m .state))
+
+abbrev pub MakesTuple : TupleMade → List ℕ → ℕ → List ℕ → Type 0
+MakesTuple m = Makes (m .refusal) (tupleNumbers (m .state))
+
+abbrev pub MakesReserve : ReserveMade → List ℕ → ℕ → List ℕ → Type 0
+MakesReserve m = Makes (m .refusal) (reserveNumbers (m .state))
+
+-- a step writes the state that it leaves, and what it shows: the word, the mark, and the tuple vote's mask or the pair voted on
+abbrev pub StepsConfirm : ConfirmStep → List ℕ → List ℕ → ℕ → List ℕ → List ℕ → Type 0
+StepsConfirm t = Steps (confirm.numberOf (t .answer)) (confirmNumbers (t .state)) (confirm.wordOf (t .answer) ∷ confirm.markOf (t .answer) ∷ [])
+
+abbrev pub StepsVote : VoteStep → List ℕ → List ℕ → ℕ → List ℕ → List ℕ → Type 0
+StepsVote t = Steps (vote.numberOf (t .answer)) (voteNumbers (t .state)) (vote.wordOf (t .answer) ∷ vote.markOf (t .answer) ∷ [])
+
+abbrev pub StepsTuple : TupleStep → List ℕ → List ℕ → ℕ → List ℕ → List ℕ → Type 0
+StepsTuple t =
+    Steps (tuple.numberOf (t .answer)) (tupleNumbers (t .state)) (tuple.wordOf (t .answer) ∷ tuple.markOf (t .answer) ∷ tuple.maskOf (t .answer) ∷ [])
+
+-- the step's own number, and 7 too where the state's phase is no phase
+abbrev pub reserveNumber : List ℕ → ReserveStep → ℕ
+reserveNumber state t = orElse (vote.numberOf (t .answer)) 7 (noPhase state)
+
+abbrev pub StepsReserve : ReserveStep → List ℕ → List ℕ → ℕ → List ℕ → List ℕ → Type 0
+StepsReserve t state = Steps (reserveNumber state t) (reserveNumbers (t .state)) (vote.wordOf (t .answer) ∷ vote.markOf (t .answer) ∷ t .pair ∷ []) state

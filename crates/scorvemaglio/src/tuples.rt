@@ -1,0 +1,134 @@
+// The tuple vote, for C: its state is the confirmation's five numbers, the agreed signals and a count for each place.
+use confirm::Confirm;
+use tuple::Tuple;
+use tuple::TupleMade;
+use tuple::TupleStep;
+ghost use mathlib.Core.Path.{_≡_};
+ghost use lib.ListN.{drop};
+ghost use Rattle.rules.specs.Limits.{defaultWord};
+ghost use Rattle.tuple.specs.Tuple.{madeOf, stepOf};
+ghost use Rattle.scorvemaglio.specs.Runs.{RunsTuple};
+ghost use Rattle.scorvemaglio.specs.States.{tupleOf, tupleNumbers};
+ghost use Rattle.scorvemaglio.specs.Voters.{MakesTuple, StepsTuple};
+
+// The counts stand behind six numbers.
+fn counts_of(s: [u32; 38]) -> [u32; 32]
+    ensures { λ r. ⌜ r ≡ drop 6 s ⌝ }
+{
+    let mut counts = [0u32; 32];
+    let mut i = 0usize;
+    while i < 32 {
+        counts[i] = s[6 + i];
+        i += 1;
+    }
+    counts
+}
+
+fn tuple_of(s: [u32; 38]) -> Tuple
+    ensures { λ r. ⌜ r ≡ tupleOf s ⌝ }
+{
+    let confirm = Confirm {
+        n: s[0],
+        need: s[1],
+        input: s[2],
+        output: s[3],
+        count: s[4],
+    };
+    let counts = counts_of(s);
+    Tuple {
+        confirm,
+        agreed: s[5],
+        counts,
+    }
+}
+
+fn tuple_numbers(t: Tuple) -> [u32; 38]
+    ensures { λ r. ⌜ r ≡ tupleNumbers t ⌝ }
+{
+    let confirm = t.confirm;
+    let counts = t.counts;
+    let mut s = [0u32; 38];
+    s[0] = confirm.n;
+    s[1] = confirm.need;
+    s[2] = confirm.input;
+    s[3] = confirm.output;
+    s[4] = confirm.count;
+    s[5] = t.agreed;
+    let mut i = 6usize;
+    while i < 38 {
+        s[i] = counts[i - 6];
+        i += 1;
+    }
+    s
+}
+
+// Where a state was made, it is written.
+fn put_made(state: &mut [u32; 38], made: TupleMade) -> u32
+    ensures { λ r. ⌜ MakesTuple made (now (state .entry)) r (now (state .exit)) ⌝ }
+{
+    if made.refusal != 0 {
+        return made.refusal;
+    }
+    *state = tuple_numbers(made.state);
+    0
+}
+
+// Where a step was taken, the state that it leaves and what it shows are written.
+fn put_step(state: &mut [u32; 38], answer: &mut [u32; 3], taken: TupleStep) -> u32
+    ensures { λ r. ⌜ StepsTuple taken (now (state .entry)) (now (answer .entry)) r (now (state .exit)) (now (answer .exit)) ⌝ }
+{
+    let shown = taken.answer;
+    let number = shown.number();
+    if number != 0 {
+        return number;
+    }
+    *state = tuple_numbers(taken.state);
+    *answer = [shown.word(), shown.mark() as u32, shown.mask()];
+    0
+}
+
+#[no_mangle]
+pub extern "C" fn scorve_tuple_from_word(state: &mut [u32; 38], n: u32, need: u32, word: u32) -> u32
+    ensures { λ r. ⌜ MakesTuple (madeOf n need word) (now (state .entry)) r (now (state .exit)) ⌝ }
+{
+    put_made(state, Tuple::from_word(n, need, word))
+}
+
+#[no_mangle]
+pub extern "C" fn scorve_tuple_new(state: &mut [u32; 38], n: u32, need: u32) -> u32
+    ensures { λ r. ⌜ MakesTuple (madeOf n need (defaultWord n)) (now (state .entry)) r (now (state .exit)) ⌝ }
+{
+    put_made(state, Tuple::new(n, need))
+}
+
+#[no_mangle]
+pub extern "C" fn scorve_tuple_step(
+    state: &mut [u32; 38],
+    a: u32,
+    b: u32,
+    answer: &mut [u32; 3],
+) -> u32
+    ensures { λ r. ⌜ StepsTuple (stepOf (tupleOf (now (state .entry))) a b) (now (state .entry)) (now (answer .entry))
+        r (now (state .exit)) (now (answer .exit)) ⌝ }
+{
+    let s = tuple_of(*state);
+    put_step(state, answer, s.step(a, b))
+}
+
+#[no_mangle]
+pub extern "C" fn scorve_tuple_run(
+    n: u32,
+    need: u32,
+    word: u32,
+    a: &[u32],
+    b: &[u32],
+    words: &mut [u32],
+    masks: &mut [u32],
+    marks: &mut [u8],
+    sample: &mut u32,
+) -> u32
+    ensures { λ r. ⌜ RunsTuple n need word (now (a .entry)) (now (b .entry)) (now (words .entry)) (now (masks .entry)) (now (marks .entry))
+        r (now (sample .exit)) (now (words .exit)) (now (masks .exit)) (now (marks .exit)) ⌝ }
+{
+    crate::tell(sample, tuple::run(n, need, word, a, b, words, masks, marks))
+}
