@@ -1,0 +1,80 @@
+/* A lift dispatcher's cycle. Two units read the same three signals, each on its own clock, so for a while one shows a
+ * change that the other has not seen yet. The tuple vote tells such a while from a fault: the dispatcher acts on the
+ * confirmed word, and holds the car at an alarm. Build: cc -Iinclude examples/dispatcher.c libscorvemaglio.a */
+#include <stdio.h>
+
+#include "scorvemaglio.h"
+
+/* A word has one bit for each signal. */
+enum signal { KEY_TURNED = 1, DOORS_CLOSED = 2, RESERVED = 4 };
+#define SIGNALS 3
+
+/* Measured at the site, in microseconds: the gaps between samples of one unit, and how long a unit may take to see what
+ * the other has seen. */
+#define LEAST_GAP 9000
+#define GREATEST_GAP 12000
+#define GREATEST_DELAY 25000
+
+/* What the units show in each cycle; a real dispatcher reads them here. */
+static const struct { uint32_t unit_1, unit_2; } shown[] = {
+  {0, 0}, {1, 0}, {1, 1}, {1, 1}, {1, 1}, {1, 1},         /* the key is turned; unit 1 sees it first */
+  {3, 1}, {3, 1}, {3, 3}, {3, 3}, {3, 3}, {3, 3},         /* the doors close */
+  {3, 7}, {3, 7}, {3, 7}, {3, 7}, {3, 3}, {3, 3}, {3, 3}, /* unit 2 shows a reservation that unit 1 never sees */
+  {3, 8}, {3, 3},                                         /* unit 2 shows a signal that is not there */
+};
+#define CYCLES (sizeof shown / sizeof *shown)
+
+/* The count that the vote needs follows from the clocks; two changes of one signal must lie further apart than the quiet
+ * gap. Returns 0 if the times are refused. */
+static uint32_t count_for_the_clocks(void)
+{
+  scorve_sizing sizing;
+  uint32_t refusal = scorve_sizing_of(SIGNALS, LEAST_GAP, GREATEST_GAP, GREATEST_DELAY, &sizing);
+  if (refusal != SCORVE_OK) {
+    fprintf(stderr, "the measured times are refused with %u\n", (unsigned)refusal);
+    return 0;
+  }
+  printf("count %lu, age bound %lu us, quiet gap %lu us\n", (unsigned long)sizing.count, (unsigned long)sizing.age,
+         (unsigned long)sizing.quiet);
+  return (uint32_t)sizing.count; /* at most SCORVE_MAX_COUNT */
+}
+
+/* What the car may do by a confirmed word. */
+static const char *order_for(uint32_t word)
+{
+  const uint32_t both = KEY_TURNED | DOORS_CLOSED;
+  return (word & both) == both ? "run the car" : "wait at the floor";
+}
+
+/* One cycle. An alarm ends by itself when the units agree again; a dispatcher that wants it to last has to remember it. */
+static void cycle(scorve_tuple *vote, uint32_t unit_1, uint32_t unit_2)
+{
+  scorve_tuple_answer answer;
+  uint32_t refusal = scorve_tuple_step(vote, unit_1, unit_2, &answer);
+  if (refusal != SCORVE_OK) /* the answer is not written, and the vote is as it was */
+    printf("refused with %u: hold the car\n", (unsigned)refusal);
+  else if (answer.mark == SCORVE_ALARM)
+    printf("word %u, alarm of signals %u: hold the car\n", (unsigned)answer.word, (unsigned)answer.mask);
+  else
+    printf("word %u, %s: %s\n", (unsigned)answer.word, answer.mark == SCORVE_CONFIRMED ? "confirmed" : "held",
+           order_for(answer.word));
+}
+
+int main(void)
+{
+  scorve_tuple vote;
+  uint32_t refusal, count = count_for_the_clocks();
+  size_t i;
+  if (count == 0)
+    return 1;
+  refusal = scorve_tuple_new(&vote, SIGNALS, count);
+  if (refusal != SCORVE_OK) {
+    fprintf(stderr, "the vote is refused with %u\n", (unsigned)refusal);
+    return 1;
+  }
+  for (i = 0; i < CYCLES; i++) {
+    printf("cycle %2u, units %u and %u: ", (unsigned)i, (unsigned)shown[i].unit_1, (unsigned)shown[i].unit_2);
+    cycle(&vote, shown[i].unit_1, shown[i].unit_2);
+  }
+  return 0;
+}

@@ -1,0 +1,273 @@
+//! A thin safe wrapper around libscorvemaglio.a: what include/scorvemaglio.h says holds here. Each call returns `Err` with the
+//! refusal's number where the C function returns it. Rust's borrows keep the two promises that the header leaves to the caller:
+//! pointers are valid, and a place that is written overlaps no other.
+//! Build a program that has `mod scorvemaglio;` with `rustc --edition 2021 -L FOLDER program.rs`, the archive being in FOLDER.
+#![allow(dead_code)] // a program uses what it needs
+
+pub const MAX_SAMPLES: usize = 2048;
+pub const LONGEST_LISTING: usize = 50111;
+
+/// The mark of an answer. `AGREED` is the same number as `CONFIRMED`.
+pub const CONFIRMED: u32 = 0;
+pub const AGREED: u32 = 0;
+pub const HELD: u32 = 1;
+pub const ALARM: u32 = 2;
+
+// A struct of the header: its fields in the header's order, laid out as in C. The last number is its size there.
+macro_rules! c_struct {
+    ($name:ident { $($field:ident: $kind:ty),* }, $bytes:expr) => {
+        #[repr(C)]
+        #[derive(Clone, Copy, Debug, Default, PartialEq)]
+        pub struct $name { $(pub $field: $kind),* }
+        const _: () = assert!(std::mem::size_of::<$name>() == $bytes);
+    };
+}
+
+c_struct!(Confirm { n: u32, need: u32, input: u32, output: u32, count: u32 }, 20);
+c_struct!(ConfirmAnswer { word: u32, mark: u32 }, 8);
+c_struct!(Vote { n: u32, need: u32, word: u32, count: u32 }, 16);
+c_struct!(VoteAnswer { word: u32, mark: u32 }, 8);
+c_struct!(Tuple { n: u32, need: u32, input: u32, output: u32, count: u32, agreed: u32, counts: [u32; 32] }, 152);
+c_struct!(TupleAnswer { word: u32, mark: u32, mask: u32 }, 12);
+c_struct!(Reserve { phase: u32, n: u32, need: u32, word: u32, count: u32 }, 20);
+c_struct!(ReserveAnswer { word: u32, mark: u32, pair: u32 }, 12);
+c_struct!(Sizing { count: u64, age: u64, quiet: u64 }, 24);
+c_struct!(Readings { x1: f64, x2: f64, x3: f64, tolerance: f64 }, 32);
+c_struct!(Header { units: u32, samples: u32, n: u32, need: u32, word: u32 }, 20);
+
+// A reference is passed as a pointer, a slice as a pointer and a length.
+type In = *const u32;
+type Out = *mut u32;
+type Marks = *mut u8;
+
+#[link(name = "scorvemaglio", kind = "static")]
+extern "C" {
+    fn scorve_confirm_from_word(state: &mut Confirm, n: u32, need: u32, word: u32) -> u32;
+    fn scorve_confirm_new(state: &mut Confirm, n: u32, need: u32) -> u32;
+    fn scorve_confirm_step(state: &mut Confirm, input: u32, answer: &mut ConfirmAnswer) -> u32;
+    fn scorve_confirm_run(n: u32, need: u32, word: u32, samples: In, samples_len: usize, words: Out, words_len: usize,
+        marks: Marks, marks_len: usize, counts: Out, counts_len: usize, sample: &mut u32) -> u32;
+    fn scorve_vote_from_word(state: &mut Vote, n: u32, need: u32, word: u32) -> u32;
+    fn scorve_vote_new(state: &mut Vote, n: u32, need: u32) -> u32;
+    fn scorve_vote_step(state: &mut Vote, a: u32, b: u32, reset: u32, answer: &mut VoteAnswer) -> u32;
+    fn scorve_vote_run(n: u32, need: u32, word: u32, a: In, a_len: usize, b: In, b_len: usize, words: Out, words_len: usize,
+        marks: Marks, marks_len: usize, sample: &mut u32) -> u32;
+    fn scorve_tuple_from_word(state: &mut Tuple, n: u32, need: u32, word: u32) -> u32;
+    fn scorve_tuple_new(state: &mut Tuple, n: u32, need: u32) -> u32;
+    fn scorve_tuple_step(state: &mut Tuple, a: u32, b: u32, answer: &mut TupleAnswer) -> u32;
+    fn scorve_tuple_run(n: u32, need: u32, word: u32, a: In, a_len: usize, b: In, b_len: usize, words: Out, words_len: usize,
+        masks: Out, masks_len: usize, marks: Marks, marks_len: usize, sample: &mut u32) -> u32;
+    fn scorve_reserve_from_word(state: &mut Reserve, n: u32, need: u32, word: u32) -> u32;
+    fn scorve_reserve_new(state: &mut Reserve, n: u32, need: u32) -> u32;
+    fn scorve_reserve_step(state: &mut Reserve, a: u32, b: u32, c: u32, d: u32, answer: &mut ReserveAnswer) -> u32;
+    fn scorve_reserve_run(n: u32, need: u32, word: u32, a: In, a_len: usize, b: In, b_len: usize, c: In, c_len: usize,
+        d: In, d_len: usize, words: Out, words_len: usize, marks: Marks, marks_len: usize, sample: &mut u32) -> u32;
+    fn scorve_sizing_of(n: u32, least_gap: u32, greatest_gap: u32, delay: u32, sizing: &mut Sizing) -> u32;
+    fn scorve_threshold_vote(readings: &Readings, agreed: &mut f64, mark: &mut u32) -> u32;
+    fn scorve_recording_read(bytes: *const u8, bytes_len: usize, times: Out, times_len: usize, one: Out, one_len: usize,
+        two: Out, two_len: usize, three: Out, three_len: usize, four: Out, four_len: usize,
+        header: &mut Header, sample: &mut u32) -> u32;
+    fn scorve_listing_list(bytes: *const u8, bytes_len: usize, out: *mut u8, out_len: usize, written: &mut usize,
+        refused: &mut u32) -> u32;
+}
+
+/// The value if the call was accepted, else the refusal's number.
+fn accepted<T>(refusal: u32, value: T) -> Result<T, u32> {
+    if refusal == 0 { Ok(value) } else { Err(refusal) }
+}
+
+// The two constructors, the same for each voter.
+macro_rules! constructors {
+    ($voter:ident, $from_word:ident, $new:ident) => {
+        /// A fresh state from an initial word.
+        pub fn from_word(n: u32, need: u32, word: u32) -> Result<$voter, u32> {
+            let mut state = $voter::default();
+            accepted(unsafe { $from_word(&mut state, n, need, word) }, state)
+        }
+        /// A fresh state from the word zero.
+        pub fn new(n: u32, need: u32) -> Result<$voter, u32> {
+            let mut state = $voter::default();
+            accepted(unsafe { $new(&mut state, n, need) }, state)
+        }
+    };
+}
+
+impl Confirm {
+    constructors!(Confirm, scorve_confirm_from_word, scorve_confirm_new);
+    /// One sample. A refused step leaves the state as it is; so do those of the other voters.
+    pub fn step(&mut self, input: u32) -> Result<ConfirmAnswer, u32> {
+        let mut answer = ConfirmAnswer::default();
+        accepted(unsafe { scorve_confirm_step(self, input, &mut answer) }, answer)
+    }
+}
+
+impl Vote {
+    constructors!(Vote, scorve_vote_from_word, scorve_vote_new);
+    pub fn step(&mut self, a: u32, b: u32, reset: bool) -> Result<VoteAnswer, u32> {
+        let mut answer = VoteAnswer::default();
+        accepted(unsafe { scorve_vote_step(self, a, b, reset as u32, &mut answer) }, answer)
+    }
+}
+
+impl Tuple {
+    constructors!(Tuple, scorve_tuple_from_word, scorve_tuple_new);
+    pub fn step(&mut self, a: u32, b: u32) -> Result<TupleAnswer, u32> {
+        let mut answer = TupleAnswer::default();
+        accepted(unsafe { scorve_tuple_step(self, a, b, &mut answer) }, answer)
+    }
+}
+
+impl Reserve {
+    constructors!(Reserve, scorve_reserve_from_word, scorve_reserve_new);
+    pub fn step(&mut self, units: [u32; 4]) -> Result<ReserveAnswer, u32> {
+        let mut answer = ReserveAnswer::default();
+        let [a, b, c, d] = units;
+        accepted(unsafe { scorve_reserve_step(self, a, b, c, d, &mut answer) }, answer)
+    }
+}
+
+/// A run's `sample` is the number of the sample with refusal 6, else 0.
+pub fn confirm_run(n: u32, need: u32, word: u32, samples: &[u32], words: &mut [u32], marks: &mut [u8], counts: &mut [u32],
+                   sample: &mut u32) -> Result<(), u32> {
+    let refusal = unsafe {
+        scorve_confirm_run(n, need, word, samples.as_ptr(), samples.len(), words.as_mut_ptr(), words.len(),
+                           marks.as_mut_ptr(), marks.len(), counts.as_mut_ptr(), counts.len(), sample)
+    };
+    accepted(refusal, ())
+}
+
+pub fn vote_run(n: u32, need: u32, word: u32, a: &[u32], b: &[u32], words: &mut [u32], marks: &mut [u8],
+                sample: &mut u32) -> Result<(), u32> {
+    let refusal = unsafe {
+        scorve_vote_run(n, need, word, a.as_ptr(), a.len(), b.as_ptr(), b.len(), words.as_mut_ptr(), words.len(),
+                        marks.as_mut_ptr(), marks.len(), sample)
+    };
+    accepted(refusal, ())
+}
+
+pub fn tuple_run(n: u32, need: u32, word: u32, a: &[u32], b: &[u32], words: &mut [u32], masks: &mut [u32], marks: &mut [u8],
+                 sample: &mut u32) -> Result<(), u32> {
+    let refusal = unsafe {
+        scorve_tuple_run(n, need, word, a.as_ptr(), a.len(), b.as_ptr(), b.len(), words.as_mut_ptr(), words.len(),
+                         masks.as_mut_ptr(), masks.len(), marks.as_mut_ptr(), marks.len(), sample)
+    };
+    accepted(refusal, ())
+}
+
+pub fn reserve_run(n: u32, need: u32, word: u32, units: [&[u32]; 4], words: &mut [u32], marks: &mut [u8],
+                   sample: &mut u32) -> Result<(), u32> {
+    let [a, b, c, d] = units;
+    let refusal = unsafe {
+        scorve_reserve_run(n, need, word, a.as_ptr(), a.len(), b.as_ptr(), b.len(), c.as_ptr(), c.len(),
+                           d.as_ptr(), d.len(), words.as_mut_ptr(), words.len(), marks.as_mut_ptr(), marks.len(), sample)
+    };
+    accepted(refusal, ())
+}
+
+/// The count, the age bound and the quiet gap, from times in microseconds.
+pub fn sizing_of(n: u32, least_gap: u32, greatest_gap: u32, delay: u32) -> Result<Sizing, u32> {
+    let mut sizing = Sizing::default();
+    accepted(unsafe { scorve_sizing_of(n, least_gap, greatest_gap, delay, &mut sizing) }, sizing)
+}
+
+/// The median of three readings, or `None` with an alarm.
+pub fn threshold_vote(readings: &Readings) -> Result<Option<f64>, u32> {
+    let (mut agreed, mut mark) = (0.0, 0);
+    let refusal = unsafe { scorve_threshold_vote(readings, &mut agreed, &mut mark) };
+    accepted(refusal, if mark == AGREED { Some(agreed) } else { None })
+}
+
+/// Reads a recording into five slices of `MAX_SAMPLES` places: the times, then units 1 to 4.
+pub fn recording_read(bytes: &[u8], slices: [&mut [u32]; 5], sample: &mut u32) -> Result<Header, u32> {
+    let mut header = Header::default();
+    let [times, one, two, three, four] = slices;
+    let refusal = unsafe {
+        scorve_recording_read(bytes.as_ptr(), bytes.len(), times.as_mut_ptr(), times.len(), one.as_mut_ptr(), one.len(),
+                              two.as_mut_ptr(), two.len(), three.as_mut_ptr(), three.len(), four.as_mut_ptr(), four.len(),
+                              &mut header, sample)
+    };
+    accepted(refusal, header)
+}
+
+/// Lists a recording into at least `LONGEST_LISTING` bytes: how many were written, and whether the text says that the recording
+/// is refused.
+pub fn listing_list(bytes: &[u8], out: &mut [u8]) -> Result<(usize, bool), u32> {
+    let (mut written, mut refused) = (0, 0);
+    let refusal =
+        unsafe { scorve_listing_list(bytes.as_ptr(), bytes.len(), out.as_mut_ptr(), out.len(), &mut written, &mut refused) };
+    accepted(refusal, (written, refused != 0))
+}
+
+// Nothing compares the declarations above with the header, so each call is tried once: `rustc --test`.
+#[cfg(test)]
+mod tests {
+    use super::*;
+
+    #[test]
+    fn confirmation() {
+        let (mut words, mut marks, mut counts, mut sample) = ([9; 6], [9; 6], [9; 6], 9);
+        let samples = [0, 1, 1, 3, 3, 3];
+        assert_eq!(confirm_run(2, 2, 0, &samples, &mut words, &mut marks, &mut counts, &mut sample), Ok(()));
+        assert_eq!((words, marks, counts, sample), ([0, 0, 0, 0, 0, 3], [1, 1, 1, 1, 1, 0], [1, 0, 1, 0, 1, 1], 0));
+        assert_eq!(confirm_run(1, 2, 0, &samples, &mut words, &mut marks, &mut counts, &mut sample), Err(6));
+        assert_eq!(sample, 3);
+        assert_eq!(confirm_run(2, 2, 0, &[], &mut [], &mut [], &mut [], &mut sample), Ok(()));
+        assert_eq!((Confirm::new(33, 2), Confirm::from_word(2, 2, 4)), (Err(2), Err(5)));
+        let mut state = Confirm::from_word(2, 2, 1).unwrap();
+        assert_eq!(state.step(2), Ok(ConfirmAnswer { word: 1, mark: HELD }));
+        assert_eq!(state, Confirm { n: 2, need: 2, input: 2, output: 1, count: 0 });
+    }
+
+    #[test]
+    fn votes() {
+        let (mut words, mut masks, mut marks, mut sample) = ([9; 3], [9; 3], [9; 3], 9);
+        let (a, b) = ([2, 3, 3], [2, 1, 1]);
+        assert_eq!(vote_run(2, 2, 0, &a, &b, &mut words, &mut marks, &mut sample), Ok(()));
+        assert_eq!((words, marks, sample), ([2, 2, 2], [0, 1, 2], 0));
+        assert_eq!(tuple_run(2, 2, 2, &a, &b, &mut words, &mut masks, &mut marks, &mut sample), Ok(()));
+        assert_eq!((words, masks, marks, sample), ([2, 2, 2], [0, 0, 2], [1, 1, 2], 0));
+        assert_eq!((Vote::new(2, 0), Tuple::new(2, 0)), (Err(1), Err(1)));
+        let mut vote = Vote::from_word(3, 4, 6).unwrap();
+        assert_eq!(vote.step(5, 7, false), Ok(VoteAnswer { word: 6, mark: HELD }));
+        assert_eq!(vote, Vote { n: 3, need: 4, word: 6, count: 1 });
+        assert_eq!(vote.step(5, 7, true).map(|_| vote.count), Ok(0));
+        let (mut tuple, mut counts) = (Tuple::from_word(4, 2, 6).unwrap(), [0; 32]);
+        assert_eq!(tuple.step(5, 7), Ok(TupleAnswer { word: 6, mark: HELD, mask: 0 }));
+        assert_eq!(tuple.step(8, 10), Ok(TupleAnswer { word: 6, mark: ALARM, mask: 2 }));
+        counts[1] = 1;
+        assert_eq!(tuple, Tuple { n: 4, need: 2, input: 7, output: 6, count: 0, agreed: 10, counts });
+    }
+
+    #[test]
+    fn reserve_vote() {
+        let units = [[5, 5, 5, 5], [5, 7, 5, 4], [5, 7, 5, 4], [5, 7, 5, 4], [5, 7, 5, 4], [5, 7, 4, 4]];
+        let (mut words, mut marks, mut sample) = ([9; 6], [9; 6], 9);
+        let [a, b, c, d] = [0, 1, 2, 3].map(|unit| units.map(|row| row[unit]));
+        assert_eq!(reserve_run(3, 2, 0, [&a, &b, &c, &d], &mut words, &mut marks, &mut sample), Ok(()));
+        assert_eq!((words, marks, sample), ([5, 5, 5, 5, 5, 4], [0, 1, 2, 1, 1, 0], 0));
+        assert_eq!((Reserve::new(0, 2), Reserve::from_word(3, 2, 8)), (Err(2), Err(5)));
+        let mut state = Reserve { phase: 1, n: 3, need: 4, word: 5, count: 2 };
+        assert_eq!(state.step([0, 0, 6, 7]), Ok(ReserveAnswer { word: 5, mark: HELD, pair: 2 }));
+        assert_eq!(state, Reserve { phase: 2, n: 3, need: 4, word: 5, count: 0 });
+    }
+
+    #[test]
+    fn others() {
+        assert_eq!(sizing_of(3, 10, 12, 25), Ok(Sizing { count: 3, age: 133, quiet: 145 }));
+        assert_eq!(threshold_vote(&Readings { x1: 0.0, x2: 0.5, x3: 1.0, tolerance: 0.5 }), Ok(Some(0.5)));
+        assert_eq!(threshold_vote(&Readings { x1: 1.0, x2: 2.0, x3: 3.0, tolerance: 0.5 }), Ok(None));
+        // Two units, 1 sample, n 4, N 3, word 7; the columns start at 44, 48 and 52; time 11, samples 6 and 5.
+        let numbers: [u32; 13] = [2, 1, 4, 3, 7, 44, 48, 52, 0, 0, 11, 6, 5];
+        let mut bytes = b"QSR1".to_vec();
+        bytes.extend(numbers.iter().flat_map(|number| number.to_le_bytes()));
+        let (mut slices, mut sample) = ([[9; MAX_SAMPLES]; 5], 9);
+        let header = recording_read(&bytes, slices.each_mut().map(|slice| &mut slice[..]), &mut sample);
+        assert_eq!(header, Ok(Header { units: 2, samples: 1, n: 4, need: 3, word: 7 }));
+        assert_eq!((slices.map(|slice| slice[0]), sample), ([11, 6, 5, 9, 9], 0));
+        let mut out = vec![0; LONGEST_LISTING];
+        assert_eq!(listing_list(&bytes, &mut out), Ok((33, false)));
+        assert_eq!(&out[..33], b"pair 1 4 3\n0 00000007 H 00000000\n");
+        assert_eq!(listing_list(&[], &mut out), Ok((16, true)));
+        assert_eq!(listing_list(&bytes, &mut out[1..]), Err(100));
+    }
+}

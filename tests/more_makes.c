@@ -1,0 +1,80 @@
+/* The eight constructors, with every combination of good and bad arguments. */
+#include <string.h>
+
+#include "more.h"
+
+static const uint32_t widths[] = {0, 1, 2, 31, 32, 33, 256 + 1, 65536 + 1, UINT32_MAX};
+static const uint32_t needs[] = {0, 1, 2, 999, 1000, 1001, 65536 + 1, UINT32_MAX};
+static const uint32_t initials[] = {0, 1, 2, 3, 0x40000000, 0x80000000, UINT32_MAX};
+
+static uint32_t refusal_of(uint32_t n, uint32_t need, uint32_t word)
+{
+  uint32_t refusal = width_and_count_refusal(n, need);
+  return refusal == SCORVE_OK && is_outside(word, n) ? (uint32_t)SCORVE_BAD_WORD : refusal;
+}
+
+/* The number, and if it is 0 the fresh state that the papers describe. */
+static void check_made(const char *voter, uint32_t given, uint32_t expected, const void *state, const void *fresh,
+                       size_t size)
+{
+  check(given == expected, "%s: made with %lu, not %lu", voter, (unsigned long)given, (unsigned long)expected);
+  if (expected == SCORVE_OK)
+    check(memcmp(state, fresh, size) == 0, "%s: not the fresh state", voter);
+}
+
+static void make_confirm(uint32_t n, uint32_t need, uint32_t word)
+{
+  scorve_confirm state, fresh = {n, need, word, word, 0}, zero = {n, need, 0, 0, 0};
+  make_dirty(&state, sizeof state);
+  check_made("confirm", guarded_confirm_from_word(&state, n, need, word), refusal_of(n, need, word), &state, &fresh,
+             sizeof state);
+  make_dirty(&state, sizeof state);
+  check_made("confirm", guarded_confirm_new(&state, n, need), refusal_of(n, need, 0), &state, &zero, sizeof state);
+}
+
+static void make_vote(uint32_t n, uint32_t need, uint32_t word)
+{
+  scorve_vote state, fresh = {n, need, word, 0}, zero = {n, need, 0, 0};
+  make_dirty(&state, sizeof state);
+  check_made("vote", guarded_vote_from_word(&state, n, need, word), refusal_of(n, need, word), &state, &fresh,
+             sizeof state);
+  make_dirty(&state, sizeof state);
+  check_made("vote", guarded_vote_new(&state, n, need), refusal_of(n, need, 0), &state, &zero, sizeof state);
+}
+
+static void make_tuple(uint32_t n, uint32_t need, uint32_t word)
+{
+  scorve_tuple state, fresh = {n, need, word, word, 0, word, {0}}, zero = {n, need, 0, 0, 0, 0, {0}};
+  make_dirty(&state, sizeof state);
+  check_made("tuple", guarded_tuple_from_word(&state, n, need, word), refusal_of(n, need, word), &state, &fresh,
+             sizeof state);
+  make_dirty(&state, sizeof state);
+  check_made("tuple", guarded_tuple_new(&state, n, need), refusal_of(n, need, 0), &state, &zero, sizeof state);
+}
+
+static void make_reserve(uint32_t n, uint32_t need, uint32_t word)
+{
+  scorve_reserve state, fresh = {SCORVE_PRIMARY, n, need, word, 0}, zero = {SCORVE_PRIMARY, n, need, 0, 0};
+  make_dirty(&state, sizeof state);
+  check_made("reserve", guarded_reserve_from_word(&state, n, need, word), refusal_of(n, need, word), &state, &fresh,
+             sizeof state);
+  make_dirty(&state, sizeof state);
+  check_made("reserve", guarded_reserve_new(&state, n, need), refusal_of(n, need, 0), &state, &zero, sizeof state);
+}
+
+void more_makes(void)
+{
+  size_t i, rest = 0;
+  for (i = 0; rest == 0; i++) {
+    uint32_t n, need, word;
+    rest = i;
+    n = PICK(rest, widths);
+    need = PICK(rest, needs);
+    word = PICK(rest, initials);
+    checking("constructors", (unsigned long)i);
+    make_confirm(n, need, word);
+    make_vote(n, need, word);
+    make_tuple(n, need, word);
+    make_reserve(n, need, word);
+  }
+}

@@ -1,0 +1,196 @@
+/* Runs of all four voters: lengths at their limits, empty traces, refusals, and random traces taken step by step. */
+#include <string.h>
+
+#include "traces.h"
+
+#define PLACES (SCORVE_MAX_SAMPLES + 2)
+#define ROUNDS 120
+
+static uint32_t unit_places[UNITS][PLACES], shown_places[PLACES], third_places[PLACES];
+static uint8_t mark_places[PLACES];
+
+/* A trace of zeros, all slices of this length. */
+static trace quiet_trace(size_t length)
+{
+  trace t = {3, 2, 0, 0, {{NULL, 0}}, {NULL, 0}, {NULL, 0}, {NULL, 0}};
+  size_t i;
+  for (i = 0; i < UNITS; i++) {
+    t.units[i].at = unit_places[i];
+    t.units[i].length = length;
+  }
+  memset(unit_places, 0, sizeof unit_places);
+  t.shown.at = shown_places;
+  t.third.at = third_places;
+  t.marks.at = mark_places;
+  t.shown.length = t.third.length = t.marks.length = length;
+  return t;
+}
+
+static void check_run(const voter *v, trace *t, uint32_t expected, uint32_t sample)
+{
+  uint32_t refusal;
+  make_dirty(shown_places, sizeof shown_places);
+  make_dirty(third_places, sizeof third_places);
+  make_dirty(mark_places, sizeof mark_places);
+  make_dirty(&t->sample, sizeof t->sample);
+  refusal = v->run(t);
+  check(refusal == expected, "%s: a run of %lu samples refused with %lu, not %lu", v->name,
+        (unsigned long)t->units[0].length, (unsigned long)refusal, (unsigned long)expected);
+  check(t->sample == sample, "%s: sample %lu, not %lu", v->name, (unsigned long)t->sample, (unsigned long)sample);
+  if (refusal == SCORVE_OK && expected == SCORVE_OK)
+    v->check_steps(t);
+}
+
+/* An empty trace is accepted, 2,048 samples too, 2,049 are not. */
+static void limits_of_length(const voter *v)
+{
+  static const size_t lengths[] = {0, 1, 2047, 2048, 2049};
+  size_t i;
+  for (i = 0; i < sizeof lengths / sizeof *lengths; i++) {
+    trace t = quiet_trace(lengths[i]);
+    check_run(v, &t, lengths[i] > SCORVE_MAX_SAMPLES ? SCORVE_TOO_LONG : SCORVE_OK, 0);
+  }
+}
+
+/* An empty trace does not hide a bad argument. */
+static void damaged_empty_trace(const voter *v)
+{
+  trace t = quiet_trace(0);
+  t.word = 8;
+  check_run(v, &t, SCORVE_BAD_WORD, 0);
+  t.n = 33;
+  check_run(v, &t, SCORVE_BAD_WIDTH, 0);
+  t.need = 1001;
+  check_run(v, &t, SCORVE_BAD_COUNT, 0);
+}
+
+/* The length of a voter's slice: the units come first, then words, marks and the third. */
+static size_t *length_of(const voter *v, trace *t, size_t slice)
+{
+  if (slice < v->units)
+    return &t->units[slice].length;
+  if (slice == v->units)
+    return &t->shown.length;
+  return slice == v->units + 1 ? &t->marks.length : &t->third.length;
+}
+
+static void check_other_length(const voter *v, size_t slice, size_t length, size_t other)
+{
+  trace t = quiet_trace(length);
+  int too_long = slice < v->units && other > SCORVE_MAX_SAMPLES;
+  *length_of(v, &t, slice) = other;
+  check_run(v, &t, too_long ? SCORVE_TOO_LONG : SCORVE_BAD_LENGTH, 0);
+}
+
+/* Each slice in turn is longer or shorter than the others, or empty, or alone not empty. */
+static void one_slice_of_another_length(const voter *v)
+{
+  size_t slice, slices = v->units + 2 + (size_t)v->has_third;
+  for (slice = 0; slice < slices; slice++) {
+    check_other_length(v, slice, 5, 6);
+    check_other_length(v, slice, 5, 4);
+    check_other_length(v, slice, 5, 0);
+    check_other_length(v, slice, 0, 1);
+    check_other_length(v, slice, SCORVE_MAX_SAMPLES, SCORVE_MAX_SAMPLES + 1);
+    check_other_length(v, slice, SCORVE_MAX_SAMPLES, SCORVE_MAX_SAMPLES - 1);
+  }
+}
+
+/* Everything is damaged, and mended one by one: the lowest number is given each time. */
+static void damages_mended_one_by_one(const voter *v)
+{
+  trace t = quiet_trace(SCORVE_MAX_SAMPLES + 1);
+  t.need = 0;
+  t.n = 33;
+  t.marks.length = 5;
+  t.word = 8;
+  unit_places[v->units - 1][3] = 8;
+  check_run(v, &t, SCORVE_BAD_COUNT, 0);
+  t.need = 2;
+  check_run(v, &t, SCORVE_BAD_WIDTH, 0);
+  t.n = 3;
+  check_run(v, &t, SCORVE_TOO_LONG, 0);
+  t.units[0].length = t.units[1].length = t.units[2].length = t.units[3].length = 7;
+  check_run(v, &t, SCORVE_BAD_LENGTH, 0);
+  t.shown.length = t.marks.length = t.third.length = 7;
+  check_run(v, &t, SCORVE_BAD_WORD, 0);
+  t.word = 7;
+  check_run(v, &t, SCORVE_BAD_SAMPLE, 3);
+  unit_places[v->units - 1][3] = 7;
+  check_run(v, &t, SCORVE_OK, 0);
+}
+
+/* The smallest number is told, whichever unit it belongs to. */
+static void samples_outside(const voter *v)
+{
+  static const uint32_t numbers[] = {0, 1, 1000, 2046};
+  size_t i;
+  for (i = 0; i < sizeof numbers / sizeof *numbers * v->units; i++) {
+    uint32_t smallest = numbers[i / v->units];
+    trace t = quiet_trace(SCORVE_MAX_SAMPLES);
+    unit_places[i % v->units][smallest] = 0x80000000;
+    unit_places[(i + 1) % v->units][SCORVE_MAX_SAMPLES - 1] = 8;
+    check_run(v, &t, SCORVE_BAD_SAMPLE, smallest);
+    unit_places[i % v->units][smallest] = 0;
+    check_run(v, &t, SCORVE_BAD_SAMPLE, SCORVE_MAX_SAMPLES - 1);
+  }
+}
+
+/* The other units mostly show what the first one does, so that they agree and disagree for a while. */
+static void others_by_chance(size_t i, uint32_t n)
+{
+  size_t unit;
+  for (unit = 1; unit < UNITS; unit++)
+    unit_places[unit][i] = chance_below(3) == 0 ? word_by_chance(n) : unit_places[0][i];
+}
+
+/* The first unit changes now and then. */
+static trace trace_by_chance(size_t length)
+{
+  trace t = quiet_trace(length);
+  size_t i;
+  t.n = chance_below(2) == 0 ? 1 + chance_below(3) : 1 + chance_below(32);
+  t.need = chance_below(8) == 0 ? 1 + chance_below(1000) : 1 + chance_below(3);
+  t.word = word_by_chance(t.n);
+  for (i = 0; i < length; i++) {
+    unit_places[0][i] = i > 0 && chance_below(3) > 0 ? unit_places[0][i - 1] : word_by_chance(t.n);
+    others_by_chance(i, t.n);
+  }
+  return t;
+}
+
+static void count_marks(bytes marks, unsigned long seen[])
+{
+  size_t i;
+  for (i = 0; i < marks.length; i++)
+    seen[marks.at[i] % (SCORVE_ALARM + 1)]++;
+}
+
+/* A run equals its steps; every mark was shown, so the comparison was not empty. */
+static void runs_equal_their_steps(const voter *v)
+{
+  unsigned long seen[SCORVE_ALARM + 1] = {0};
+  size_t round, i;
+  for (round = 0; round < ROUNDS; round++) {
+    trace t = trace_by_chance(round == 0 ? SCORVE_MAX_SAMPLES : chance_below(60));
+    checking(v->name, (unsigned long)round);
+    check_run(v, &t, SCORVE_OK, 0);
+    count_marks(t.marks, seen);
+  }
+  for (i = 0; i <= v->greatest_mark; i++)
+    check(seen[i] > 0, "%s: mark %lu was never shown", v->name, (unsigned long)i);
+}
+
+void more_traces(void)
+{
+  size_t i;
+  for (i = 0; i < VOTERS; i++) {
+    checking("traces of voter", (unsigned long)i);
+    limits_of_length(&voters[i]);
+    damaged_empty_trace(&voters[i]);
+    one_slice_of_another_length(&voters[i]);
+    damages_mended_one_by_one(&voters[i]);
+    samples_outside(&voters[i]);
+    runs_equal_their_steps(&voters[i]);
+  }
+}
