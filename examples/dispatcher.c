@@ -9,11 +9,10 @@
 enum signal { KEY_TURNED = 1, DOORS_CLOSED = 2, RESERVED = 4 };
 #define SIGNALS 3
 
-/* Measured at the site, in microseconds: the gaps between samples of one unit, and how long a unit may take to see what
- * the other has seen. */
+/* Measured at the site, in microseconds: the gaps between samples, and how late a unit may show a signal. */
 #define LEAST_GAP 9000
 #define GREATEST_GAP 12000
-#define GREATEST_DELAY 25000
+#define GREATEST_DELAY 15000
 
 /* What the units show in each cycle; a real dispatcher reads them here. */
 static const struct { uint32_t unit_1, unit_2; } shown[] = {
@@ -24,18 +23,18 @@ static const struct { uint32_t unit_1, unit_2; } shown[] = {
 };
 #define CYCLES (sizeof shown / sizeof *shown)
 
-/* The count that the vote needs follows from the clocks; two changes of one signal must lie further apart than the quiet
- * gap. Returns 0 if the times are refused. */
+/* The count that the vote needs follows from the clocks, with a gap added to the delay: two sound units may disagree at as
+ * many samples as the count for the delay alone, and the vote alarms at the last of them. Two changes of one signal must lie
+ * further apart than the quiet gap. Returns 0 if the times are refused. */
 static uint32_t count_for_the_clocks(void)
 {
   scorve_sizing sizing;
-  uint32_t refusal = scorve_sizing_of(SIGNALS, LEAST_GAP, GREATEST_GAP, GREATEST_DELAY, &sizing);
+  uint32_t refusal = scorve_sizing_of(SIGNALS, LEAST_GAP, GREATEST_GAP, GREATEST_DELAY + LEAST_GAP, &sizing);
   if (refusal != SCORVE_OK) {
     fprintf(stderr, "the measured times are refused with %u\n", (unsigned)refusal);
     return 0;
   }
-  printf("count %lu, age bound %lu us, quiet gap %lu us\n", (unsigned long)sizing.count, (unsigned long)sizing.age,
-         (unsigned long)sizing.quiet);
+  printf("count %lu, quiet gap %lu us\n", (unsigned long)sizing.count, (unsigned long)sizing.quiet);
   return (uint32_t)sizing.count; /* at most SCORVE_MAX_COUNT */
 }
 

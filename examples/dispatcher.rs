@@ -12,7 +12,7 @@ const SIGNALS: u32 = 3;
 // Measured at the site, in microseconds.
 const LEAST_GAP: u32 = 9_000;
 const GREATEST_GAP: u32 = 12_000;
-const GREATEST_DELAY: u32 = 25_000;
+const GREATEST_DELAY: u32 = 15_000;
 
 // What the two units show in each cycle; a real dispatcher reads them here.
 const SHOWN: [(u32, u32); 21] = [
@@ -44,8 +44,9 @@ fn cycle(vote: &mut Tuple, unit_1: u32, unit_2: u32) -> String {
 
 /// The `Err` of a refused sizing or constructor is its number, which ends the program with status 1.
 fn main() -> Result<(), u32> {
-    let sizing = sizing_of(SIGNALS, LEAST_GAP, GREATEST_GAP, GREATEST_DELAY)?;
-    println!("count {}, age bound {} us, quiet gap {} us", sizing.count, sizing.age, sizing.quiet);
+    // A gap is added to the delay, lest sound units alarm: dispatcher.c says why.
+    let sizing = sizing_of(SIGNALS, LEAST_GAP, GREATEST_GAP, GREATEST_DELAY + LEAST_GAP)?;
+    println!("count {}, quiet gap {} us", sizing.count, sizing.quiet);
     let mut vote = Tuple::new(SIGNALS, sizing.count as u32)?;
     for (i, (unit_1, unit_2)) in SHOWN.into_iter().enumerate() {
         println!("cycle {i:2}, units {unit_1} and {unit_2}: {}", cycle(&mut vote, unit_1, unit_2));

@@ -106,8 +106,25 @@ static void thresholds(void)
   }
 }
 
+/* The logic has one NaN, so the contract does not tell the bits of a lent one: they stay, with an alarm and with a refusal. */
+static void lent_nan(void)
+{
+  static const scorve_readings unagreed[] = {{1.0, 2.0, 3.0, 0.5}, {NAN, 2.0, 3.0, 0.5}};
+  static const uint64_t bits[] = {UINT64_C(0x7ff0000000000001), UINT64_C(0xfff8dead00000005)};
+  size_t i;
+  for (i = 0; i < 4; i++) {
+    double agreed;
+    uint32_t mark = 0;
+    checking("lent NaN", (unsigned long)i);
+    memcpy(&agreed, &bits[i / 2], sizeof agreed);
+    guarded_threshold_vote(&unagreed[i % 2], &agreed, &mark);
+    check(memcmp(&agreed, &bits[i / 2], sizeof agreed) == 0, "threshold: the bits of a lent NaN changed");
+  }
+}
+
 void more_numbers(void)
 {
   sizings();
   thresholds();
+  lent_nan();
 }
