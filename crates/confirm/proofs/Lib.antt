@@ -1,4 +1,5 @@
 pub mod Clauses
+pub mod Confirmed
 pub mod Exactly
 pub mod Stepwise
 pub mod Unique

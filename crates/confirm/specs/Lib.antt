@@ -1,3 +1,4 @@
 pub mod Answers
 pub mod Confirm
 pub mod Run
+pub mod Standing
