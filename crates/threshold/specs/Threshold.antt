@@ -10,11 +10,16 @@ use Rattle.threshold.specs.declared.Readings.{Readings}
 use Rattle.threshold.specs.declared.Threshold.{Threshold}
 use Rattle.threshold.specs.declared.Threshold.the-variants.{Agreed, Alarm, Refused}
 
--- each case's refusal number, 0 is none
+-- each case's refusal number, 0 is none, and its mark byte; a refusal has no mark, and 255 stands there
 abbrev pub numberOf : Threshold → ℕ
 numberOf (Agreed m) = 0
 numberOf Alarm = 0
 numberOf (Refused k) = k
+
+abbrev pub markOf : Threshold → ℕ
+markOf (Agreed m) = 0
+markOf Alarm = 2
+markOf (Refused k) = 255
 
 -- +0
 abbrev pub nought : Float

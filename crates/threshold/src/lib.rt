@@ -3,7 +3,7 @@ ghost use mathlib.Core.Path.{_≡_};
 ghost use mathlib.Core.Bool.{_&&_};
 ghost use lib.Dec.{T};
 ghost use lib.Ieee.Scale.{finite};
-ghost use Rattle.threshold.specs.Threshold.{lesser, greater, magnitudeOf, within, badReadings, agrees, medianOf, thresholdOf};
+ghost use Rattle.threshold.specs.Threshold.{numberOf, markOf, lesser, greater, magnitudeOf, within, badReadings, agrees, medianOf, thresholdOf};
 
 // Three readings and their tolerance.
 pub struct Readings {
@@ -18,6 +18,30 @@ pub enum Threshold {
     Agreed(f64),
     Alarm,
     Refused(u32),
+}
+
+impl Threshold {
+    // The refusal's number, 0 for none.
+    pub fn number(self) -> u32
+        ensures { λ r. ⌜ r ≡ numberOf self ⌝ }
+    {
+        match self {
+            Threshold::Agreed(_) => 0,
+            Threshold::Alarm => 0,
+            Threshold::Refused(k) => k,
+        }
+    }
+
+    // The mark byte: 0 agreed, 2 alarm, 255 with a refusal.
+    pub fn mark(self) -> u8
+        ensures { λ r. ⌜ r ≡ markOf self ⌝ }
+    {
+        match self {
+            Threshold::Agreed(_) => 0,
+            Threshold::Alarm => 2,
+            Threshold::Refused(_) => 255,
+        }
+    }
 }
 
 // Written so that each is one instruction: the same as the definition for all but a NaN.
