@@ -2,11 +2,11 @@
 -- exactly when no test is true. Every voter's calls have these tables, so this page is read once for all of them.
 use mathlib.Core.Path.{_≡_, refl, sym, _∙_}
 use mathlib.Core.Logic.{_↔_}
-use mathlib.Core.List.{List, List·Memᴰ}
+use mathlib.Core.List.{List}
 use mathlib.Core.Bool.{Bool, true, false}
 use Prim.Native.Nat.{ℕ, _≤_}
 use Rattle.rules.specs.Limits.{badWidth, outside}
-use Rattle.rules.specs.Table.{Row, _when_, first, answer, numbered, rising, Given, _and_}
+use Rattle.rules.specs.Table.{Row, first, answer, numbered, rising, Given, LowestOf, _and_}
 use Rattle.rules.specs.Refusals.{makeRows, stepRows, runRows}
 use Rattle.rules.proofs.Tables.{exactly, lowest, works, own-number}
 
@@ -52,9 +52,9 @@ module _ (miscounted : Bool) (n word : ℕ) where
   accepted refusalOf refuse work own none e = make-0 .0 (sym (own-number refusalOf (first making) refuse work own none) ∙ e)
 
   -- where several apply, the lowest number is given
-  pub make-lowest : (j : ℕ) → List·Memᴰ (j when true) making → first making ≤ j
+  pub make-lowest : LowestOf making
   unfolding rising
-  make-lowest = lowest 0 making refl
+  make-lowest = lowest making refl
 
 module _ (miscounted : Bool) (n : ℕ) (outlying damaged : Bool) where
   abbrev stepping : List Row
@@ -88,9 +88,9 @@ module _ (miscounted : Bool) (n : ℕ) (outlying damaged : Bool) where
     λ m. step-exactly 0 .1 (m .counted, (m .wide, (m .sample-in, (m .sound, refl)))),
   )
 
-  pub step-lowest : (j : ℕ) → List·Memᴰ (j when true) stepping → first stepping ≤ j
+  pub step-lowest : LowestOf stepping
   unfolding rising
-  step-lowest = lowest 0 stepping refl
+  step-lowest = lowest stepping refl
 
 module _ (miscounted : Bool) (n word : ℕ) (long unequal outlying : Bool) where
   abbrev running : List Row
@@ -138,6 +138,6 @@ module _ (miscounted : Bool) (n word : ℕ) (long unequal outlying : Bool) where
     λ m. run-exactly 0 .1 (m .counted, (m .wide, (m .short, (m .alike, (m .word-in, (m .samples-in, refl)))))),
   )
 
-  pub run-lowest : (j : ℕ) → List·Memᴰ (j when true) running → first running ≤ j
+  pub run-lowest : LowestOf running
   unfolding rising
-  run-lowest = lowest 0 running refl
+  run-lowest = lowest running refl

@@ -8,7 +8,7 @@ use native.Mathlib.Omega.{arith}
 use lib.Dec.{ltb, leb, eqb}
 use borrow.Author.Tests.{ltb-true, leb-true, eqb-true, eqb-false, ne-eqb}
 use Rattle.rules.specs.Choose.{if_then_else_}
-use Rattle.rules.specs.Table.{Row, _when_, first, answer, numbered, rising, has, Given, orElse, through}
+use Rattle.rules.specs.Table.{Row, _when_, first, answer, numbered, rising, has, Given, LowestOf, orElse, through}
 
 pub and-both : (a b : Bool) → a && b ≡ true → (a ≡ true) × (b ≡ true)
 and-both true b e = (refl, e)
@@ -60,13 +60,24 @@ above low (k when c ∷ rows) r j b (List·Memᴰ·tail m) =
     let p = and-both (ltb low k) (rising k rows) r in
     omega (arith, ltb-true low k (p .0), above k rows (p .1) j b m)
 
-pub lowest : (low : ℕ) (rows : List Row) → rising low rows ≡ true → (j : ℕ) → List·Memᴰ (j when true) rows → first rows ≤ j
+lowest-above : (low : ℕ) (rows : List Row) → rising low rows ≡ true → (j : ℕ) → List·Memᴰ (j when true) rows → (low < first rows) × (first rows ≤ j)
 unfolding first rising
-lowest low [] r j m = absurd (List·Memᴰ·not-nil m)
-lowest low (k when true ∷ rows) r j (List·Memᴰ·head e) = let q : j ≡ k = cc in omega arith
-lowest low (k when true ∷ rows) r j (List·Memᴰ·tail m) = omega (arith, above k rows (and-both (ltb low k) (rising k rows) r .1) j true m)
-lowest low (k when false ∷ rows) r j (List·Memᴰ·head e) = let q : true ≡ false = cc in absurd (true≢false q)
-lowest low (k when false ∷ rows) r j (List·Memᴰ·tail m) = lowest k rows (and-both (ltb low k) (rising k rows) r .1) j m
+lowest-above low [] r j m = absurd (List·Memᴰ·not-nil m)
+lowest-above low (k when true ∷ rows) r j m =
+    let p = and-both (ltb low k) (rising k rows) r in
+    (ltb-true low k (p .0), go m (p .1))
+  where
+    go : List·Memᴰ (j when true) (k when true ∷ rows) → rising k rows ≡ true → k ≤ j
+    go (List·Memᴰ·head e) q = let s : j ≡ k = cc in omega arith
+    go (List·Memᴰ·tail m) q = omega (arith, above k rows q j true m)
+lowest-above low (k when false ∷ rows) r j (List·Memᴰ·head e) = let q : true ≡ false = cc in absurd (true≢false q)
+lowest-above low (k when false ∷ rows) r j (List·Memᴰ·tail m) =
+    let p = and-both (ltb low k) (rising k rows) r in
+    let l = lowest-above k rows (p .1) j m in
+    (omega (arith, ltb-true low k (p .0), l .0), l .1)
+
+pub lowest : (rows : List Row) → rising 0 rows ≡ true → LowestOf rows
+lowest = lowest-above 0
 
 -- the two ways to answer, as code finds them: k is the table's number
 module _ {A : Type 0} (refuse : ℕ → A) (work : A) {number k : ℕ} (found : k ≡ number) where

@@ -1,8 +1,8 @@
 -- A call's refusals as a table of rows, each a number and its test; the first row whose test is true gives the number.
-use Prim.Native.Nat.{ℕ}
+use Prim.Native.Nat.{ℕ, _<_, _≤_}
 use mathlib.Core.Path.{_≡_}
 use mathlib.Core.Logic.{_⊎_}
-use mathlib.Core.List.{List, [], _∷_}
+use mathlib.Core.List.{List, [], _∷_, List·Memᴰ}
 use mathlib.Core.Bool.{Bool, true, false, _&&_, _||_}
 use lib.Dec.{ltb, eqb}
 use Rattle.rules.specs.Choose.{if_then_else_}
@@ -46,6 +46,10 @@ Given k [] = k ≡ 0
 Given k (j when b ∷ rows) =
     if eqb j k then (if has k rows then (b ≡ true) ⊎ Given k rows else (b ≡ true)) else
     (b ≡ false and Given k rows)
+
+-- "where several apply, the lowest number is given": of the rows whose tests are true
+abbrev pub LowestOf : List Row → Type 0
+LowestOf rows = (j : ℕ) → List·Memᴰ (j when true) rows → (0 < first rows) × (first rows ≤ j)
 
 -- a table gone through row by row, as code does it: what is refused already stays
 abbrev pub orElse : ℕ → ℕ → Bool → ℕ

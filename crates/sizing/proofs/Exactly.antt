@@ -5,8 +5,8 @@ use mathlib.Core.Bool.{true, false, _||_}
 use Prim.Native.Nat.{ℕ}
 use lib.Dec.{ltb}
 use Rattle.rules.specs.Limits.{badWidth}
-use Rattle.rules.specs.Table.{numbered, rising, Given, _and_}
-use Rattle.rules.proofs.Tables.{exactly-when}
+use Rattle.rules.specs.Table.{numbered, rising, Given, LowestOf, _and_}
+use Rattle.rules.proofs.Tables.{exactly-when, lowest}
 use Rattle.sizing.specs.declared.Sizing.{Sizing}
 use Rattle.sizing.specs.Sizing.{badGaps, badDelay, countOf, sizeRows, notSized, sized, sizingOf}
 
@@ -25,6 +25,7 @@ module _ (n tm tM d : ℕ) where
   pub size-10 : (sizingOf n tm tM d .refusal ≡ 10) ↔ badWidth n ≡ false and badGaps tm tM || badDelay d ≡ false and ltb 1000 (countOf tm d) ≡ true
   size-10 = size-exactly 10
 
-  pub size-rises : rising 0 (sizeRows n tm tM d) ≡ true
+  -- where several apply, the lowest number is given
+  pub size-lowest : LowestOf (sizeRows n tm tM d)
   unfolding rising
-  size-rises = refl
+  size-lowest = lowest (sizeRows n tm tM d) refl

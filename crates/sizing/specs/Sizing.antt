@@ -26,7 +26,7 @@ ageBound n need tM d = n * need * tM + d
 abbrev pub quietGap : ℕ → ℕ → ℕ → ℕ → ℕ
 quietGap n need tM d = (n * need + 1) * tM + d
 
--- 10: the count would exceed 1,000
+-- its refusals; 10: the count would exceed 1,000
 abbrev pub sizeRows : ℕ → ℕ → ℕ → ℕ → List Row
 sizeRows n tm tM d =
     2 when badWidth n ∷

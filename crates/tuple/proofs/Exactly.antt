@@ -2,13 +2,13 @@
 -- but for a step's last row, 8 (`eight-never`). `new` is `from_word` of the default word.
 use mathlib.Core.Path.{_≡_, refl}
 use mathlib.Core.Logic.{_↔_}
-use mathlib.Core.List.{List, [], zip, List·Memᴰ}
+use mathlib.Core.List.{List, [], zip}
 use mathlib.Core.Bool.{Bool, true, false, not, _||_}
 use Prim.Native.Nat.{ℕ, _≤_}
 use lib.Dec.{eqb}
 use lib.ListN.{length}
 use Rattle.rules.specs.Limits.{badCount, tooLong, differ}
-use Rattle.rules.specs.Table.{_when_, first, Given, numbered, rising}
+use Rattle.rules.specs.Table.{Given, LowestOf, numbered, rising}
 use Rattle.rules.specs.Refusals.{makeRows, runRows}
 use Rattle.rules.proofs.Readings.{Makes}
 use Rattle.rules.proofs.Tables.{exactly-when, lowest}
@@ -52,9 +52,9 @@ unfolding stepOf numbered
 step-exactly s a b = exactly-when (λ (t : TupleStep). numberOf (t .answer)) (rowsOf s a b) (notTaken s) (clauses s a b) refl (λ k. refl) (none-refused s a b)
 
 -- where several apply, the lowest number is given
-pub step-lowest : (s : Tuple) (a b j : ℕ) → List·Memᴰ (j when true) (rowsOf s a b) → first (rowsOf s a b) ≤ j
+pub step-lowest : (s : Tuple) (a b : ℕ) → LowestOf (rowsOf s a b)
 unfolding rising
-step-lowest s a b = lowest 0 (rowsOf s a b) refl
+step-lowest s a b = lowest (rowsOf s a b) refl
 
 module _ (n need word : ℕ) (a b words masks marks : List ℕ) where
   abbrev answered : RunAnswer
