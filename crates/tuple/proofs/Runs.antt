@@ -20,8 +20,8 @@ use Rattle.vote.proofs.Alarms.{alarm-exactly}
 use Rattle.tuple.specs.declared.Tuple.{Tuple}
 use Rattle.tuple.specs.declared.TupleAnswer.{TupleAnswer}
 use Rattle.tuple.specs.declared.TupleStep.{TupleStep}
-use Rattle.tuple.specs.Run.{leaves, stepped, steps, shownMask}
-use Rattle.tuple.specs.Tuple.{width, fresh, voter, alarmBit, votersOf, alarm, confirmedAs, confirms, clauses}
+use Rattle.tuple.specs.Run.{leaves, stepped, steps, shownWord, shownMask}
+use Rattle.tuple.specs.Tuple.{width, fresh, voter, alarmBit, votersOf, confirmedAs, confirms, clauses}
 use Rattle.tuple.proofs.Clauses.{same-sizes, voters-left}
 use Rattle.tuple.proofs.Masks.{one-at, mask-shown, mask-bit}
 use Rattle.tuple.proofs.PerSignal.{voter-fresh, per-signal}
@@ -65,10 +65,10 @@ pub quiet : (s : Tuple) (a b : ℕ) → shownMask (clauses s a b) ≡ 0 → clau
 unfolding clauses
 quiet s a b e = rw (eq-eqb (votersOf s a b .mask) 0 (sym (mask-shown s a b) ∙ e))
 
--- a sample with one: the mask with the previous output, and confirmation takes no step
-pub loud : (s : Tuple) (a b : ℕ) → (shownMask (clauses s a b) ≡ 0 → ⊥) → clauses s a b ≡ alarm s (votersOf s a b)
+-- a sample with one: the previous output is shown, and confirmation takes no step
+pub loud : (s : Tuple) (a b : ℕ) → (shownMask (clauses s a b) ≡ 0 → ⊥) → (shownWord (clauses s a b) ≡ s .confirm .output) × (clauses s a b .state .confirm ≡ s .confirm)
 unfolding clauses
-loud s a b h = rw (ne-eqb (votersOf s a b .mask) 0 (λ e. h (mask-shown s a b ∙ e)))
+loud s a b h = let other = ne-eqb (votersOf s a b .mask) 0 (λ e. h (mask-shown s a b ∙ e)) in (rw other, rw other)
 
 -- a run without one: the answers are the confirmation's, of the voted words one after the other
 pub quiet-run :
