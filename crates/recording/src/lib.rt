@@ -1,4 +1,6 @@
 // The reader of recordings (document 01, "The recording"): bytes in, the header's values out, and each column into a lent slice.
+mod samples;
+
 use trace::RunAnswer;
 ghost use mathlib.Core.Path.{_≡_};
 ghost use mathlib.Core.List.{_++_};
@@ -6,8 +8,7 @@ ghost use Prim.Native.Nat.{_+_, _*_, _≤_, _<_};
 ghost use lib.ListN.{length, drop};
 ghost use Rattle.rules.specs.Table.{first};
 ghost use Rattle.rules.specs.Signals.{asList, someBelow};
-ghost use Rattle.trace.specs.Samples.{firstWhere};
-ghost use Rattle.recording.specs.Recording.{field, headerOf, columnAt, offsetOf, sampleAt, badTag, badUnits, badOffset, outsideAt, numbers, headRows, layoutRows, shapeRows, refusedAt, readOf, held, Laid, Read};
+ghost use Rattle.recording.specs.Recording.{field, headerOf, columnAt, offsetOf, sampleAt, badTag, badUnits, badOffset, headRows, layoutRows, shapeRows, refusedAt, readOf, held, Laid, Read};
 
 // What a recording's header says.
 pub struct Header {
@@ -152,46 +153,6 @@ fn shape_refusal(bytes: &[u8], lent: bool) -> u32
     layout_refusal(bytes, read_header(bytes))
 }
 
-// Sample i of column k.
-fn sample(bytes: &[u8], h: Header, k: u32, i: u32) -> u32
-    requires { ⌜ Laid (now bytes) h ⌝ }
-    requires { ⌜ (k ≤ h .units) × (i < h .samples) ⌝ }
-    ensures { λ r. ⌜ r ≡ sampleAt (now (bytes .entry)) (h .samples) k i ⌝ }
-{
-    field(bytes, column_at(h.samples, k) + 4 * i as usize)
-}
-
-// 6, of sample i: a unit that is present shows a word outside the width.
-fn outside_at(bytes: &[u8], h: Header, i: u32) -> bool
-    requires { ⌜ Laid (now bytes) h ⌝ }
-    requires { ⌜ i < h .samples ⌝ }
-    ensures { λ r. ⌜ r ≡ outsideAt (now (bytes .entry)) h i ⌝ }
-{
-    let mut bad = false;
-    let mut k = 0;
-    while k < h.units {
-        bad = bad | rules::outside(h.n, sample(bytes, h, k + 1, i));
-        k += 1;
-    }
-    bad
-}
-
-// The number of the first such sample, or the number of samples.
-fn first_outside(bytes: &[u8], h: Header) -> u32
-    requires { ⌜ Laid (now bytes) h ⌝ }
-    ensures { λ r. ⌜ r ≡ firstWhere (outsideAt (now (bytes .entry)) h) (numbers h) ⌝ }
-{
-    let mut i = 0;
-    while i < h.samples {
-        let bad = outside_at(bytes, h, i);
-        if bad {
-            return i;
-        }
-        i += 1;
-    }
-    i
-}
-
 // The column k on the first places of a slice.
 fn fill(bytes: &[u8], h: Header, k: u32, out: &mut [u32])
     requires { ⌜ Laid (now bytes) h ⌝ }
@@ -200,7 +161,7 @@ fn fill(bytes: &[u8], h: Header, k: u32, out: &mut [u32])
 {
     let mut i = 0;
     while i < h.samples {
-        out[i as usize] = sample(bytes, h, k, i);
+        out[i as usize] = samples::sample(bytes, h, k, i);
         i += 1;
     }
 }
@@ -241,7 +202,7 @@ fn judged(bytes: &[u8], lent: bool) -> RecordingRead
         return refused(refusal, 0);
     }
     let h = read_header(bytes);
-    let outsider = first_outside(bytes, h);
+    let outsider = samples::outsider(bytes, h);
     if outsider < h.samples {
         return refused(6, outsider);
     }

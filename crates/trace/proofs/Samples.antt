@@ -10,6 +10,8 @@ use lib.Seq.{drop-cons}
 use lib.Dec.{ltb, leb·zero, leb·suc-suc}
 use borrow.Author.Tests.{ltb-true, ltb-false}
 use Rattle.rules.specs.Choose.{if_then_else_}
+use Rattle.rules.specs.Signals.{someBelow}
+use Rattle.rules.proofs.Signals.{none-below, not-at}
 use Rattle.trace.specs.Samples.{firstWhere, somewhere, Smallest}
 
 module _ {X : Type 0} (test : X → Bool) where
@@ -103,3 +105,11 @@ either p q (x ∷ xs) (y ∷ ys) e = go _ _ (p x) (q y) (either p q xs ys (let z
   go k l true b h = omega arith
   go k l false true h = omega arith
   go k l false false h = omega arith
+
+-- samples of n columns: where none is marked in any column, none is marked by the tests of all
+pub nowhere-below :
+    {X : Type 0} (test : ℕ → X → Bool) (n : ℕ) (xs : List X) (d : X) → someBelow n (λ k. somewhere (test k) xs) ≡ false
+    → somewhere (λ x. someBelow n (λ k. test k x)) xs ≡ false
+nowhere-below test n xs d e =
+    nowhere-if (λ x. someBelow n (λ k. test k x)) xs d
+    (λ i l. none-below (λ k. test k (getD xs i d)) n (λ k m. nowhere (test k) xs d (not-at (λ k. somewhere (test k) xs) n e k m) i l))

@@ -19,14 +19,14 @@ module _ (c : tie.Else1) where
   fine : let a = c .before .before .before .args in Shaped (a .lent) (a .bytes .now)
   fine = let a = c .before .before .before .args in shaped (a .lent) (a .bytes .now) none
 
-first-outside-requires : tie.Need-first-outside-requires
-first-outside-requires c κs = rw (c .read-header .ensures) (fine (c .before) .laid)
+outsider-requires : tie.Need-outsider-requires
+outsider-requires c κs = rw (c .read-header .ensures) (fine (c .before) .laid)
 
 returns-2 : tie.Need-returns-2
 returns-2 c =
     let o = c .before .before .before in
     let a = o .before .before .before .before .before .args in
-    let found = rw (o .before .read-header .ensures) at (o .first-outside .ensures) in
+    let found = rw (o .before .read-header .ensures) at (o .outsider .ensures) in
     let l = rw (o .before .read-header .ensures) at (c .before .if2 .taken) in
     c .refused2 .ensures ∙ sample-refused (a .lent) (a .bytes .now) (none (o .before .before)) found l
 
@@ -34,9 +34,9 @@ returns-3 : tie.Need-returns-3
 returns-3 c =
     let o = c .before .before in
     let a = o .before .before .before .before .before .args in
-    let found = rw (o .before .read-header .ensures) at (o .first-outside .ensures) in
+    let found = rw (o .before .read-header .ensures) at (o .outsider .ensures) in
     let l = rw (o .before .read-header .ensures) at (c .if2 .left) in
     rw (o .before .read-header .ensures) (accepted (a .lent) (a .bytes .now) (none (o .before .before)) found l)
 
 pub judged-spec : {M : Type 1} → statement M
-judged-spec = tie.close (tie.spec (λ _ _. tt) (λ _ _. tt) returns (λ c κs. fine c .head .long) first-outside-requires (λ _ _. tt) returns-2 returns-3)
+judged-spec = tie.close (tie.spec (λ _ _. tt) (λ _ _. tt) returns (λ c κs. fine c .head .long) outsider-requires (λ _ _. tt) returns-2 returns-3)

@@ -1,11 +1,11 @@
--- `recording::sample` meets its contract: each sample of a column that is there lies inside the bytes.
+-- `recording::samples::sample` meets its contract: each sample of a column that is there lies inside the bytes.
 use Prim.Native.Nat.{_+_, _*_, _≤_}
 use native.Mathlib.Omega.{arith}
 use borrow.Author.Needs.{needs}
 use lib.ListN.{length}
 use Rattle.recording.proofs.Columns.{bounded, inside}
-use Rattle.recording.proofs.sample.Statement.{statement}
-use Rattle.recording.proofs.sample.Tie as tie
+use Rattle.recording.proofs.samples.sample.Statement.{statement}
+use Rattle.recording.proofs.samples.sample.Tie as tie
 
 module _ (c : tie.After-column-at) where
   placed : let a = c .before .before .args in c .column-at .result + 4 * a .i + 4 ≤ length (a .bytes .now)

@@ -1,4 +1,4 @@
--- `recording::first_outside` meets its contract. The invariant: the samples passed are inside, so the search goes on from i.
+-- `recording::samples::first_outside` meets its contract. The invariant: the samples passed are inside, so the search goes on from i.
 use mathlib.Core.Path.{_≡_, sym, _∙_}
 use Prim.Native.Nat.{_+_, _-_, _≤_, _<_}
 use native.Mathlib.Omega.{arith}
@@ -8,8 +8,8 @@ use Rattle.rules.proofs.Signals.{list-length, list-at}
 use Rattle.trace.specs.Samples.{firstWhere}
 use Rattle.trace.proofs.Samples.{found, missed, no-more}
 use Rattle.recording.specs.Recording.{outsideAt, numbers}
-use Rattle.recording.proofs.first_outside.Statement.{statement}
-use Rattle.recording.proofs.first_outside.Tie as tie
+use Rattle.recording.proofs.samples.first_outside.Statement.{statement}
+use Rattle.recording.proofs.samples.first_outside.Tie as tie
 
 abbrev Inv-loop : tie.InvT-loop
 Inv-loop bytes h i₀ i = (i ≤ h .samples) × (firstWhere (outsideAt bytes h) (numbers h) ≡ i + firstWhere (outsideAt bytes h) (drop i (numbers h)))

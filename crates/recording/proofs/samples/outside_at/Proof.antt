@@ -1,4 +1,4 @@
--- `recording::outside_at` meets its contract. The invariant: some unit below k is outside.
+-- `recording::samples::outside_at` meets its contract. The invariant: some unit below k is outside.
 use mathlib.Core.Path.{_≡_}
 use Prim.Native.Nat.{_≤_, _-_, _+_}
 use native.Mathlib.Omega.{arith}
@@ -7,8 +7,8 @@ use Rattle.rules.specs.Limits.{outside}
 use Rattle.rules.specs.Signals.{someBelow}
 use Rattle.rules.proofs.Signals.{some-none, some-more}
 use Rattle.recording.specs.Recording.{sampleAt}
-use Rattle.recording.proofs.outside_at.Statement.{statement}
-use Rattle.recording.proofs.outside_at.Tie as tie
+use Rattle.recording.proofs.samples.outside_at.Statement.{statement}
+use Rattle.recording.proofs.samples.outside_at.Tie as tie
 
 abbrev Inv-loop : tie.InvT-loop
 Inv-loop bytes h i bad₀ k₀ bad k = (k ≤ h .units) × (bad ≡ someBelow k (λ u. outside (h .n) (sampleAt bytes (h .samples) (u + 1) i)))
