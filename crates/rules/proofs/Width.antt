@@ -15,7 +15,7 @@ use Rattle.rules.specs.Bits.{bit, Within}
 use Rattle.rules.specs.Limits.{badWidth, outside}
 use Rattle.rules.proofs.Ranges.{width-range}
 
-inside-lt : (n w : ℕ) → outside n w ≡ false → w < 2 ^ n
+pub inside-lt : (n w : ℕ) → outside n w ≡ false → w < 2 ^ n
 inside-lt n w e = ltb-true w (2 ^ n) (not-false (ltb w (2 ^ n)) e)
 
 pub lt-inside : (n w : ℕ) → w < 2 ^ n → outside n w ≡ false

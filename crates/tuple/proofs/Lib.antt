@@ -1,7 +1,11 @@
+pub mod Accepted
+pub mod Agreeing
 pub mod Calls
 pub mod Clauses
 pub mod Exactly
+pub mod InParts
 pub mod Masks
+pub mod Ones
 pub mod PerSignal
 pub mod Rows
 pub mod Runs

@@ -45,6 +45,9 @@ module _ (n : ℕ) (s : Tuple) (g : Sound n s) where
   old : (i : ℕ) → i < 32 → badPlace n (voteNeed s) (getD (s .counts) i 0) i ≡ false
   old = not-at (λ i. badPlace n (voteNeed s) (getD (s .counts) i 0) i) 32 (g .places)
 
+  pub above-zero : (k : ℕ) → n ≤ k → k < 32 → getD (s .counts) k 0 ≡ 0
+  above-zero k l m = omega (arith, ltb-false 0 (getD (s .counts) k 0) (rw (le-ltb k n l) at (old k m)))
+
   pub voter-sound : (i : ℕ) → i < n → votes.Sound 1 (voter s i)
   voter-sound i l =
       let o : ltb (voteNeed s - 1) (getD (s .counts) i 0) ≡ false = rw (lt-ltb i n l) at (old i (omega (arith, within-32))) in

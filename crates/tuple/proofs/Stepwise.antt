@@ -4,23 +4,22 @@ use mathlib.Core.List.{List, map, zip}
 use mathlib.Core.Bool.{false, _||_}
 use Prim.Native.Nat.{ℕ, _-_}
 use lib.Dec.{ltb}
-use lib.ListN.{length}
 use borrow.Author.Tests.{ltb-false}
-use Rattle.rules.specs.Limits.{badCount, tooLong, differ, outside}
+use Rattle.rules.specs.Limits.{badCount, outside}
 use Rattle.rules.specs.Table.{first}
-use Rattle.rules.proofs.Readings.{Makes, Runs, makes, step-0, run-makes}
+use Rattle.rules.proofs.Readings.{Makes, makes, step-0, run-makes}
 use Rattle.rules.proofs.Tables.{or-neither, works}
-use Rattle.trace.specs.Samples.{somewhere, outsidePair}
+use Rattle.trace.specs.Samples.{outsidePair}
 use Rattle.trace.specs.declared.RunAnswer.the-variants.{Done}
-use Rattle.trace.proofs.Runs.{answer-done}
 use Rattle.trace.proofs.Samples.{nowhere}
 use Rattle.trace.proofs.Steps.{agree}
 use Rattle.confirm.specs.Confirm as confirm
 use Rattle.tuple.specs.declared.Tuple.{Tuple}
 use Rattle.tuple.specs.Tuple.{width, voteNeed, badPlaces, badState, fresh, clauses, made, notMade, madeOf, earlyRows, notTaken, stepOf}
-use Rattle.tuple.specs.Run.{leaves, stepped, publicStep, steps, publicSteps, shownWord, shownMask, shownMark, unequal, answerOf, Ran, Stepwise}
+use Rattle.tuple.specs.Run.{leaves, stepped, publicStep, steps, publicSteps, shownWord, shownMask, shownMark, answerOf, Ran, Stepwise}
+use Rattle.tuple.proofs.Accepted.{fine, accept}
 use Rattle.tuple.proofs.Rows.{eight}
-use Rattle.tuple.proofs.Sound.{Sound, not-bad, never-8, sound-next, fresh-sound}
+use Rattle.tuple.proofs.Sound.{Sound, not-bad, never-8, sound-next}
 
 -- on a sound state, with words inside the width, the public step is the clauses
 pub step-is-clauses : (n : ℕ) (s : Tuple) (a b : ℕ) → Sound n s → outside n a || outside n b ≡ false → stepOf s a b ≡ clauses s a b
@@ -59,17 +58,15 @@ unfolding madeOf
 made-fresh n need word = makes (badCount need) n word notMade (made n need word)
 
 module _ (n need word : ℕ) (a b words masks marks : List ℕ) (accepted : answerOf n need word a b words masks marks ≡ Done) where
-  fine : Runs (badCount need) n word (tooLong (length a) || tooLong (length b)) (differ (length a) (length b) || unequal a words masks marks) (somewhere (outsidePair n) (zip a b))
-  fine = answer-done _ _ _ _ _ outsidePair (zip a b) accepted
-
-  -- and each public step is the clauses
+  -- each public step is the clauses
   pub same-steps : steps (fresh n need word) (zip a b) ≡ publicSteps (madeOf n need word .state) (zip a b)
   same-steps =
-      rw (made-fresh n need word (run-makes _ _ _ _ _ _ fine))
+      let f = fine n need word a b words masks marks accepted in
+      rw (made-fresh n need word (run-makes _ _ _ _ _ _ f))
       (agree stepped publicStep leaves (Sound n) (λ (x : ℕ × ℕ). outsidePair n x ≡ false)
       (λ s x. step-is-clauses n s (x .0) (x .1)) (λ s x g e. sound-next n s g (x .0) (x .1)) (0, 0)
-      (fresh n need word) (zip a b) (fresh-sound n need word (fine .counted) (fine .wide) (fine .word-in))
-      (nowhere (outsidePair n) (zip a b) (0, 0) (fine .samples-in)))
+      (fresh n need word) (zip a b) (accept n need word a b words masks marks accepted .start-sound)
+      (nowhere (outsidePair n) (zip a b) (0, 0) (f .samples-in)))
 
 pub run-is-steps :
     (n need word : ℕ) (a b words masks marks words′ masks′ marks′ : List ℕ)

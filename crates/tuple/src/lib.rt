@@ -1,19 +1,18 @@
 // The tuple vote (document 000, definition 15): a plain vote for each signal, and a confirmation of the voted word.
 mod signals;
+mod steps;
 
 use confirm::Confirm;
 use confirm::ConfirmAnswer;
-use confirm::ConfirmStep;
 use trace::RunAnswer;
 ghost use mathlib.Core.Path.{_≡_};
-ghost use mathlib.Core.List.{map, zip};
-ghost use lib.ListN.{length};
 ghost use Prim.Native.Nat.{_≤_};
 ghost use Rattle.rules.specs.Limits.{defaultWord};
 ghost use Rattle.rules.specs.Table.{first};
 ghost use Rattle.tuple.specs.Answers.{numberOf, wordOf, maskOf, markOf};
-ghost use Rattle.tuple.specs.Tuple.{width, fresh, votersOf, alarm, confirmedAs, confirms, decided, clauses, madeOf, badState, earlyRows, notTaken, stepOf};
-ghost use Rattle.tuple.specs.Run.{steps, shownWord, shownMask, shownMark, Ran};
+ghost use Rattle.tuple.specs.Tuple.{width, fresh, votersOf, confirmedAs, decided, madeOf, badState, earlyRows, notTaken, stepOf};
+ghost use Rattle.tuple.specs.Parts.{Decides};
+ghost use Rattle.tuple.specs.Run.{Ran};
 
 // The state of a tuple vote: the confirmation's state, which has n and N, the agreed signals as one word, and a count for each
 // signal; places at n and above are zero.
@@ -48,6 +47,18 @@ pub struct Voters {
     pub word: u32,
     pub mask: u32,
     pub counts: [u32; 32],
+}
+
+// The same without the counts, which step in place.
+pub struct Voted {
+    pub word: u32,
+    pub mask: u32,
+}
+
+// What is decided of a sample: the confirmation's state that is left, and the answer.
+pub struct Decided {
+    pub confirm: Confirm,
+    pub answer: TupleAnswer,
 }
 
 impl TupleAnswer {
@@ -110,23 +121,23 @@ fn confirmed_as(answer: ConfirmAnswer) -> TupleAnswer
     }
 }
 
-// The voted word has taken a step of confirmation.
-fn confirms(v: Voters, taken: ConfirmStep) -> TupleStep
-    ensures { λ r. ⌜ r ≡ confirms v taken ⌝ }
+// If any voter alarms, the mask with the previous output, and confirmation takes no step; otherwise the voted word takes one.
+fn decide(confirm: Confirm, voted: Voted) -> Decided
+    ensures { λ r. ⌜ Decides confirm voted r ⌝ }
 {
-    let confirm = taken.state;
-    let answer = taken.answer;
-    let counts = v.counts;
-    let shown = confirmed_as(answer);
-    let state = Tuple {
-        confirm,
-        agreed: v.word,
-        counts,
-    };
-    TupleStep {
-        state,
-        answer: shown,
+    let mask = voted.mask;
+    if mask != 0 {
+        let word = confirm.output;
+        return Decided {
+            confirm,
+            answer: TupleAnswer::Alarm { word, mask },
+        };
     }
+    let taken = confirm.clauses(voted.word);
+    let confirm = taken.state;
+    let confirmed = taken.answer;
+    let answer = confirmed_as(confirmed);
+    Decided { confirm, answer }
 }
 
 impl Tuple {
@@ -168,33 +179,24 @@ impl Tuple {
         Tuple::from_word(n, need, rules::default_word(n))
     }
 
-    // The mask with the previous output; confirmation takes no step.
-    fn alarm(self, v: Voters) -> TupleStep
-        ensures { λ r. ⌜ r ≡ alarm self v ⌝ }
+    // All voters have stepped: the alarm or the confirmation.
+    fn decided(self, v: Voters) -> TupleStep
+        ensures { λ r. ⌜ r ≡ decided self v ⌝ }
     {
-        let confirm = self.confirm;
+        let voted = Voted {
+            word: v.word,
+            mask: v.mask,
+        };
+        let taken = decide(self.confirm, voted);
+        let confirm = taken.confirm;
+        let answer = taken.answer;
         let counts = v.counts;
-        let word = confirm.output;
         let state = Tuple {
             confirm,
             agreed: v.word,
             counts,
         };
-        TupleStep {
-            state,
-            answer: TupleAnswer::Alarm { word, mask: v.mask },
-        }
-    }
-
-    // If any voter alarms, the alarm; otherwise a step of confirmation.
-    fn decided(self, v: Voters) -> TupleStep
-        ensures { λ r. ⌜ r ≡ decided self v ⌝ }
-    {
-        let confirm = self.confirm;
-        if v.mask != 0 {
-            return self.alarm(v);
-        }
-        confirms(v, confirm.clauses(v.word))
+        TupleStep { state, answer }
     }
 
     fn voters(self, a: u32, b: u32) -> Voters
@@ -202,8 +204,20 @@ impl Tuple {
         ensures { λ r. ⌜ r ≡ votersOf self a b ⌝ }
     {
         let confirm = self.confirm;
-        let counts = self.counts;
-        signals::step_voters(confirm.n as usize, confirm.need, self.agreed, counts, a, b)
+        let mut counts = self.counts;
+        let voted = signals::step_voters(
+            confirm.n as usize,
+            confirm.need,
+            self.agreed,
+            &mut counts,
+            a,
+            b,
+        );
+        Voters {
+            word: voted.word,
+            mask: voted.mask,
+            counts,
+        }
     }
 
     // 7: a place, an agreed bit at n or above, or the confirmation's state.
@@ -214,14 +228,6 @@ impl Tuple {
         let counts = self.counts;
         let places = signals::bad_places(confirm.n as usize, confirm.need, counts);
         places | rules::outside(confirm.n, self.agreed) | confirm.bad_state()
-    }
-
-    // The core of a run, which has tested the words and the state itself: all voters step, then the alarm or the confirmation.
-    fn clauses(self, a: u32, b: u32) -> TupleStep
-        requires { ⌜ width self ≤ 32 ⌝ }
-        ensures { λ r. ⌜ r ≡ clauses self a b ⌝ }
-    {
-        self.decided(self.voters(a, b))
     }
 
     fn refused(self, number: u32) -> TupleStep
@@ -266,37 +272,6 @@ impl Tuple {
     }
 }
 
-// A step for each sample, from a state: what each shows is written.
-fn write_steps(
-    start: Tuple,
-    a: &[u32],
-    b: &[u32],
-    words: &mut [u32],
-    masks: &mut [u32],
-    marks: &mut [u8],
-)
-    requires { ⌜ width start ≤ 32 ⌝ }
-    requires { ⌜ length (now a) ≡ length (now b) ⌝ }
-    requires { ⌜ length (now a) ≡ length (now words) ⌝ }
-    requires { ⌜ length (now a) ≡ length (now masks) ⌝ }
-    requires { ⌜ length (now a) ≡ length (now marks) ⌝ }
-    ensures { λ _. ⌜ now (words .exit) ≡ map shownWord (steps start (zip (now (a .entry)) (now (b .entry)))) ⌝ }
-    ensures { λ _. ⌜ now (masks .exit) ≡ map shownMask (steps start (zip (now (a .entry)) (now (b .entry)))) ⌝ }
-    ensures { λ _. ⌜ now (marks .exit) ≡ map shownMark (steps start (zip (now (a .entry)) (now (b .entry)))) ⌝ }
-{
-    let mut state = start;
-    let mut i = 0;
-    while i < a.len() {
-        let taken = state.clauses(a[i], b[i]);
-        let answer = taken.answer;
-        state = taken.state;
-        words[i] = answer.word();
-        masks[i] = answer.mask();
-        marks[i] = answer.mark();
-        i += 1;
-    }
-}
-
 // A run over two lent columns, from a fresh state.
 pub fn run(
     n: u32,
@@ -317,6 +292,6 @@ pub fn run(
     let RunAnswer::Done = answer else {
         return answer;
     };
-    write_steps(Tuple::fresh(n, need, word), a, b, words, masks, marks);
+    steps::write_steps(n, need, word, a, b, words, masks, marks);
     RunAnswer::Done
 }

@@ -1,0 +1,34 @@
+-- A step in parts, as a run takes it: the counts step in place, and what else is left stands apart from them.
+use Prim.Native.Nat.{ℕ, _≤_, _<_}
+use mathlib.Core.Path.{_≡_}
+use mathlib.Core.List.{List}
+use mathlib.Core.Bool.{Bool, false}
+use lib.ListN.{getD, replicate}
+use Rattle.confirm.specs.declared.Confirm.{Confirm}
+use Rattle.tuple.specs.declared.Decided.{Decided}
+use Rattle.tuple.specs.declared.Tuple.{Tuple}
+use Rattle.tuple.specs.declared.TupleStep.{TupleStep}
+use Rattle.tuple.specs.declared.Voted.{Voted}
+use Rattle.tuple.specs.declared.Voters.{Voters}
+use Rattle.tuple.specs.Tuple.{decided}
+
+-- what the voters leave, with their counts
+abbrev pub together : Voted → List ℕ → Voters
+together v counts = record { word = v .word; mask = v .mask; counts = counts }
+
+-- a state
+abbrev pub stateOf : Confirm → ℕ → List ℕ → Tuple
+stateOf confirm agreed counts = record { confirm = confirm; agreed = agreed; counts = counts }
+
+-- a step: what is decided, with what the voters leave
+abbrev pub stepWith : Decided → Voted → List ℕ → TupleStep
+stepWith d v counts = record { state = stateOf (d .confirm) (v .word) counts; answer = d .answer }
+
+-- d is what is decided: no count and no agreed word changes that
+abbrev pub Decides : Confirm → Voted → Decided → Type 0
+Decides confirm v d = (agreed : ℕ) (old counts : List ℕ) → decided (stateOf confirm agreed old) (together v counts) ≡ stepWith d v counts
+
+-- no place at n or above counts, and none at all where no voter waits
+pub record Resting (n : ℕ) (waiting : Bool) (counts : List ℕ) : Type 0 where
+  pub above : (k : ℕ) → n ≤ k → k < 32 → getD counts k 0 ≡ 0
+  pub rest : waiting ≡ false → counts ≡ replicate 32 0
