@@ -155,9 +155,9 @@ impl Confirm {
     pub fn bad_state(self) -> bool
         ensures { λ r. ⌜ r ≡ badState self ⌝ }
     {
-        let input = rules::outside(self.n, self.input);
-        let output = rules::outside(self.n, self.output);
-        (self.count > rules::last(self.need)) | input | output
+        // The two words first, so that they are tested as one.
+        let outlying = rules::outside(self.n, self.input) | rules::outside(self.n, self.output);
+        (self.count > rules::last(self.need)) | outlying
     }
 
     // One step. A refused one returns the state it got.

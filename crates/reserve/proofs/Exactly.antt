@@ -7,10 +7,10 @@ use mathlib.Core.Bool.{true, false, _||_}
 use Prim.Native.Nat.{ℕ}
 use lib.ListN.{length}
 use Rattle.rules.specs.Limits.{badCount, tooLong, differ}
-use Rattle.rules.specs.Table.{Given, numbered}
+use Rattle.rules.specs.Table.{first, Given, numbered}
 use Rattle.rules.specs.Refusals.{makeRows, runRows}
 use Rattle.rules.proofs.Readings.{Makes}
-use Rattle.rules.proofs.Tables.{exactly-when}
+use Rattle.rules.proofs.Tables.{exactly-when, own-number}
 use Rattle.trace.specs.Samples.{somewhere, Smallest, outsideFour}
 use Rattle.trace.specs.Answers.{runNumber, runSample}
 use Rattle.trace.specs.declared.RunAnswer.{RunAnswer}
@@ -42,6 +42,11 @@ none-refused s a b c d = go (s .phase) where
 pub step-exactly : (s : Reserve) (a b c d k : ℕ) → (numberOf (stepOf s a b c d .answer) ≡ k) ↔ Given k (rowsOf s a b c d)
 unfolding stepOf numbered
 step-exactly s a b c d = exactly-when (λ (t : ReserveStep). numberOf (t .answer)) (rowsOf s a b c d) (notTaken s) (clauses s a b c d) refl (λ k. refl) (none-refused s a b c d)
+
+-- so a step's number is its table's
+pub step-number : (s : Reserve) (a b c d : ℕ) → numberOf (stepOf s a b c d .answer) ≡ first (rowsOf s a b c d)
+unfolding stepOf
+step-number s a b c d = own-number (λ (t : ReserveStep). numberOf (t .answer)) (first (rowsOf s a b c d)) (notTaken s) (clauses s a b c d) (λ k. refl) (none-refused s a b c d)
 
 module _ (n need word : ℕ) (a b c d words marks : List ℕ) where
   abbrev answered : RunAnswer

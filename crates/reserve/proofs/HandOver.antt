@@ -79,7 +79,7 @@ unseen s x y h e = go (s .phase) h where
 -- nor does the public step, where their words are inside the width
 unseen-step : (s : Reserve) (x y : Sample) → handedOver (s .phase) ≡ true → Alike (s .vote .n) x y → publicStep s y ≡ publicStep s x
 unfolding stepOf
-unseen-step s x y h a = simp (unseen s x y h (a .reserve), a .inside, a .inside-too)
+unseen-step s x y h a = simp (unseen s x y h (a .reserve), a .inside, a .inside-too, a .reserve)
 
 same-width : (s : Reserve) (x : Sample) → stepped s x .state .vote .n ≡ s .vote .n
 unfolding clauses

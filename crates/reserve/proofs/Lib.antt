@@ -1,5 +1,6 @@
 pub mod Clauses
 pub mod Exactly
 pub mod HandOver
+pub mod Parts
 pub mod Stepwise
 pub mod Unique

@@ -4,7 +4,7 @@ use mathlib.Core.Path.{_≡_}
 use mathlib.Core.List.{List}
 use mathlib.Core.Bool.{Bool, true, false}
 use lib.ListN.{length, getD}
-use Rattle.trace.specs.Samples.{outsideFour}
+use Rattle.trace.specs.Samples.{outsidePair}
 use Rattle.reserve.specs.declared.Phase.{Phase}
 use Rattle.reserve.specs.declared.Phase.the-variants.{Primary, TakingOver, Reserve as Reserved}
 use Rattle.reserve.specs.Run.{Sample}
@@ -14,10 +14,10 @@ handedOver Primary = false
 handedOver TakingOver = true
 handedOver Reserved = true
 
--- both inside the width, and units 3 and 4 the same
+-- units 1 and 2 inside the width in both, and units 3 and 4 the same, whatever they show
 pub record Alike (n : ℕ) (x y : Sample) : Type 0 where
-  pub inside : outsideFour n x ≡ false
-  pub inside-too : outsideFour n y ≡ false
+  pub inside : outsidePair n (x .0) ≡ false
+  pub inside-too : outsidePair n (y .0) ≡ false
   pub reserve : x .1 ≡ y .1
 
 -- so sample by sample

@@ -1,3 +1,4 @@
 pub mod HandOver
+pub mod Parts
 pub mod Reserve
 pub mod Run

@@ -4,10 +4,14 @@ use vote::Vote;
 use vote::VoteAnswer;
 use vote::VoteStep;
 ghost use mathlib.Core.Path.{_≡_};
-ghost use mathlib.Core.List.{map};
-ghost use lib.ListN.{length};
+ghost use mathlib.Core.List.{_++_, map, zip};
+ghost use Prim.Native.Nat.{_<_};
+ghost use lib.ListN.{length, take, drop};
 ghost use Rattle.rules.specs.Limits.{defaultWord};
-ghost use Rattle.reserve.specs.Reserve.{phaseAfter, first-pair, second-pair, clauses, madeOf, stepOf};
+ghost use Rattle.rules.specs.Table.{first};
+ghost use Rattle.vote.specs.Run as voted;
+ghost use Rattle.reserve.specs.Parts.{tookOver};
+ghost use Rattle.reserve.specs.Reserve.{phaseAfter, first-pair, second-pair, clauses, madeOf, rowsOf, stepOf};
 ghost use Rattle.reserve.specs.Run.{steps, shownWord, shownMark, samplesOf, Ran};
 
 // Which pair is in force: units 1 and 2; units 3 and 4 with a reset, for one step; units 3 and 4 for ever.
@@ -113,19 +117,26 @@ impl Reserve {
         }
     }
 
-    // One step. The words of all four units are inside the width, or it is refused; a refused one returns the state it got.
-    pub fn step(self, a: u32, b: u32, c: u32, d: u32) -> ReserveStep
-        ensures { λ r. ⌜ r ≡ stepOf self a b c d ⌝ }
+    // The number of the refusal of a step, 0 for none. The words of all four units are inside the width, or it is refused.
+    pub fn refusal(self, a: u32, b: u32, c: u32, d: u32) -> u32
+        ensures { λ r. ⌜ r ≡ first (rowsOf self a b c d) ⌝ }
     {
         let vote = self.vote;
         let outside_first = rules::outside(vote.n, a) | rules::outside(vote.n, b);
         let outside_second = rules::outside(vote.n, c) | rules::outside(vote.n, d);
-        let refusal = rules::step_refusal(
+        rules::step_refusal(
             rules::bad_count(vote.need),
             vote.n,
             outside_first | outside_second,
             vote.bad_state(),
-        );
+        )
+    }
+
+    // One step. A refused one returns the state it got.
+    pub fn step(self, a: u32, b: u32, c: u32, d: u32) -> ReserveStep
+        ensures { λ r. ⌜ r ≡ stepOf self a b c d ⌝ }
+    {
+        let refusal = self.refusal(a, b, c, d);
         if refusal != 0 {
             return ReserveStep {
                 state: self,
@@ -137,7 +148,34 @@ impl Reserve {
     }
 }
 
-// A step for each sample, from a state: what each shows is written.
+// A step for each sample from a hand-over on, at sample `over`: what each shows is written. The first is with a reset.
+fn take_over(alarmed: Vote, over: usize, c: &[u32], d: &[u32], words: &mut [u32], marks: &mut [u8])
+    requires { ⌜ over < length (now c) ⌝ }
+    requires { ⌜ length (now c) ≡ length (now d) ⌝ }
+    requires { ⌜ length (now c) ≡ length (now words) ⌝ }
+    requires { ⌜ length (now c) ≡ length (now marks) ⌝ }
+    ensures { λ _. ⌜ now (words .exit) ≡
+        take over (now (words .entry)) ++ map voted.shownWord (tookOver alarmed (drop over (zip (now (c .entry)) (now (d .entry))))) ⌝ }
+    ensures { λ _. ⌜ now (marks .exit) ≡
+        take over (now (marks .entry)) ++ map voted.shownMark (tookOver alarmed (drop over (zip (now (c .entry)) (now (d .entry))))) ⌝ }
+{
+    let taken = alarmed.clauses(c[over], d[over], true);
+    let answer = taken.answer;
+    words[over] = answer.word();
+    marks[over] = answer.mark();
+    let rest = over + 1;
+    vote::columns::write_steps(
+        taken.state,
+        false,
+        &c[rest..],
+        &d[rest..],
+        &mut words[rest..],
+        &mut marks[rest..],
+    );
+}
+
+// A step for each sample, from a state that is primary: what each shows is written. Units 1 and 2 up to their first alarm, then
+// units 3 and 4: two parts, so that no sample asks for the phase.
 fn write_steps(
     start: Reserve,
     a: &[u32],
@@ -150,20 +188,16 @@ fn write_steps(
     requires { ⌜ (length (now a) ≡ length (now b)) × (length (now a) ≡ length (now c)) × (length (now a) ≡ length (now d)) ⌝ }
     requires { ⌜ length (now a) ≡ length (now words) ⌝ }
     requires { ⌜ length (now a) ≡ length (now marks) ⌝ }
+    requires { ⌜ start .phase ≡ Phase.Primary ⌝ }
     ensures { λ _. ⌜ now (words .exit) ≡
         map shownWord (steps start (samplesOf (now (a .entry)) (now (b .entry)) (now (c .entry)) (now (d .entry)))) ⌝ }
     ensures { λ _. ⌜ now (marks .exit) ≡
         map shownMark (steps start (samplesOf (now (a .entry)) (now (b .entry)) (now (c .entry)) (now (d .entry)))) ⌝ }
 {
-    let mut state = start;
-    let mut i = 0;
-    while i < a.len() {
-        let taken = state.clauses(a[i], b[i], c[i], d[i]);
-        let answer = taken.answer;
-        state = taken.state;
-        words[i] = answer.word();
-        marks[i] = answer.mark();
-        i += 1;
+    let primary = vote::columns::write_steps(start.vote, true, a, b, words, marks);
+    let over = primary.end;
+    if over < a.len() {
+        take_over(primary.state, over, c, d, words, marks);
     }
 }
 

@@ -7,12 +7,10 @@ use mathlib.Core.Bool.{Bool, true, false, _||_}
 use Rattle.rules.specs.Limits.{badCount, badWidth, outside}
 use Rattle.rules.specs.Table.{Row, _when_, first, Given, orElse, numbered}
 use Rattle.rules.specs.Refusals.{stepRows}
-use Rattle.rules.proofs.Tables.{exactly, own-number}
-use Rattle.vote.specs.Answers.{numberOf}
+use Rattle.rules.proofs.Tables.{exactly}
 use Rattle.vote.specs.Vote.{badState}
-use Rattle.reserve.specs.Reserve.{clauses, notTaken, rowsOf, stepOf}
-use Rattle.reserve.specs.declared.ReserveStep.{ReserveStep}
-use Rattle.reserve.proofs.Exactly.{none-refused}
+use Rattle.reserve.specs.Reserve.{stepOf}
+use Rattle.reserve.proofs.Exactly.{step-number}
 use Rattle.scorvemaglio.specs.States.{reserveOf, noPhase}
 use Rattle.scorvemaglio.specs.Voters.{reserveNumber}
 
@@ -37,10 +35,8 @@ rows state a b c d =
     stepRows (badCount (v .need)) (v .n) (outside (v .n) a || outside (v .n) b || (outside (v .n) c || outside (v .n) d)) (badState v || noPhase state)
 
 pub reserve-step-exactly : (state : List ℕ) (a b c d k : ℕ) → (reserveNumber state (stepOf (reserveOf state) a b c d) ≡ k) ↔ Given k (rows state a b c d)
-unfolding stepOf numbered
+unfolding numbered
 reserve-step-exactly state a b c d k =
     let s = reserveOf state in
-    let own : numberOf (stepOf s a b c d .answer) ≡ first (rowsOf s a b c d) =
-    own-number (λ (t : ReserveStep). numberOf (t .answer)) (first (rowsOf s a b c d)) (notTaken s) (clauses s a b c d) (λ k. refl) (none-refused s a b c d) in
-    rw (own, one-reason-more (badCount (s .vote .need)) (badWidth (s .vote .n)) (outside (s .vote .n) a || outside (s .vote .n) b || (outside (s .vote .n) c || outside (s .vote .n) d)) (badState (s .vote)) (noPhase state))
+    rw (step-number s a b c d, one-reason-more (badCount (s .vote .need)) (badWidth (s .vote .n)) (outside (s .vote .n) a || outside (s .vote .n) b || (outside (s .vote .n) c || outside (s .vote .n) d)) (badState (s .vote)) (noPhase state))
     (exactly (rows state a b c d) refl k)

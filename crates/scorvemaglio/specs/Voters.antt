@@ -45,5 +45,8 @@ StepsTuple t =
 abbrev pub reserveNumber : List ℕ → ReserveStep → ℕ
 reserveNumber state t = orElse (vote.numberOf (t .answer)) 7 (noPhase state)
 
+abbrev pub shownNumbers : ReserveStep → List ℕ
+shownNumbers t = vote.wordOf (t .answer) ∷ vote.markOf (t .answer) ∷ t .pair ∷ []
+
 abbrev pub StepsReserve : ReserveStep → List ℕ → List ℕ → ℕ → List ℕ → List ℕ → Type 0
-StepsReserve t state = Steps (reserveNumber state t) (reserveNumbers (t .state)) (vote.wordOf (t .answer) ∷ vote.markOf (t .answer) ∷ t .pair ∷ []) state
+StepsReserve t state = Steps (reserveNumber state t) (reserveNumbers (t .state)) (shownNumbers t) state

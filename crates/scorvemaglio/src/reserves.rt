@@ -9,7 +9,7 @@ ghost use Rattle.rules.specs.Limits.{defaultWord};
 ghost use Rattle.reserve.specs.Reserve.{madeOf, stepOf};
 ghost use Rattle.scorvemaglio.specs.Runs.{RunsReserve};
 ghost use Rattle.scorvemaglio.specs.States.{phaseOf, phaseNumber, reserveOf, reserveNumbers};
-ghost use Rattle.scorvemaglio.specs.Voters.{MakesReserve, StepsReserve};
+ghost use Rattle.scorvemaglio.specs.Voters.{MakesReserve, StepsReserve, shownNumbers};
 
 fn phase_of(p: u32) -> Phase
     ensures { λ r. ⌜ r ≡ phaseOf p ⌝ }
@@ -71,19 +71,14 @@ fn put_made(state: &mut [u32; 5], made: ReserveMade) -> u32
     0
 }
 
-// Where a step was taken, the state that it leaves and what it shows are written.
-fn put_step(state: &mut [u32; 5], answer: &mut [u32; 3], taken: ReserveStep) -> u32
-    ensures { λ r. ⌜ StepsReserve taken (now (state .entry)) (now (answer .entry)) r (now (state .exit)) (now (answer .exit)) ⌝ }
+// The state that a step leaves and what it shows are written.
+fn put_step(state: &mut [u32; 5], answer: &mut [u32; 3], taken: ReserveStep)
+    ensures { λ _. ⌜ now (state .exit) ≡ reserveNumbers (taken .state) ⌝ }
+    ensures { λ _. ⌜ now (answer .exit) ≡ shownNumbers taken ⌝ }
 {
-    let no_phase = state[0] > 2;
     let shown = taken.answer;
-    let number = rules::or_else(shown.number(), 7, no_phase);
-    if number != 0 {
-        return number;
-    }
     *state = reserve_numbers(taken.state);
     *answer = [shown.word(), shown.mark() as u32, taken.pair];
-    0
 }
 
 #[no_mangle]
@@ -118,7 +113,14 @@ pub extern "C" fn scorve_reserve_step(
         r (now (state .exit)) (now (answer .exit)) ⌝ }
 {
     let s = reserve_of(*state);
-    put_step(state, answer, s.step(a, b, c, d))
+    let no_phase = state[0] > 2;
+    let refusal = rules::or_else(s.refusal(a, b, c, d), 7, no_phase);
+    if refusal != 0 {
+        return refusal;
+    }
+    // The refusal is known, so the clauses answer as the step does.
+    put_step(state, answer, s.clauses(a, b, c, d));
+    0
 }
 
 #[no_mangle]

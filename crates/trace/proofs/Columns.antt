@@ -3,7 +3,7 @@ use mathlib.Core.Path.{_≡_, refl, ap, ap₂, _∙_}
 use mathlib.Core.List.{List, [], _∷_, zip, zipWith}
 use Prim.Native.Nat.{ℕ, zero, suc, _<_}
 use native.Mathlib.Omega.{arith}
-use lib.ListN.{length, getD}
+use lib.ListN.{length, getD, drop}
 
 pub zip-length : {X Y : Type 0} (us : List X) (vs : List Y) → length us ≡ length vs → length (zip us vs) ≡ length us
 unfolding zip zipWith
@@ -21,6 +21,14 @@ zip-at (u ∷ us) [] i d e h q = absurd (let z : suc (length us) ≡ 0 = q in om
 zip-at (u ∷ us) (v ∷ vs) zero d e h q = refl
 zip-at (u ∷ us) (v ∷ vs) (suc i) d e h q =
     zip-at us vs i d e (let z : suc i < suc (length us) = h in omega arith) (let z : suc (length us) ≡ suc (length vs) = q in omega arith)
+
+-- what is left of both, past the first n
+pub zip-drop : {X Y : Type 0} (n : ℕ) (us : List X) (vs : List Y) → length us ≡ length vs → drop n (zip us vs) ≡ zip (drop n us) (drop n vs)
+unfolding zip zipWith
+zip-drop zero us vs e = refl
+zip-drop (suc n) [] vs e = refl
+zip-drop (suc n) (u ∷ us) [] e = absurd (let z : suc (length us) ≡ 0 = e in omega arith)
+zip-drop (suc n) (u ∷ us) (v ∷ vs) e = zip-drop n us vs (let z : suc (length us) ≡ suc (length vs) = e in omega arith)
 
 module _ (a b c d : List ℕ) (ab : length a ≡ length b) (ac : length a ≡ length c) (ad : length a ≡ length d) where
   pairs-alike : length (zip a b) ≡ length (zip c d)

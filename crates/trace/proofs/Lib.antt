@@ -2,6 +2,7 @@ pub mod Columns
 pub mod Fill
 pub mod FillPairs
 pub mod Pairs
+pub mod Parts
 pub mod Rows
 pub mod Runs
 pub mod Samples

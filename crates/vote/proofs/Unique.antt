@@ -1,7 +1,9 @@
 -- Each public call's own contract, as the source states it, is its definition applied to the inputs, and so determines the
 -- answer and every slice that is lent to be written. A slice that is lent as `&` cannot change: its type says so.
-use mathlib.Core.List.{List, map, zip}
+use mathlib.Core.Bool.{Bool}
+use mathlib.Core.List.{List, _++_, map, zip}
 use Prim.Native.Nat.{ℕ}
+use lib.ListN.{take, drop}
 use denote.Ref.{now}
 use contract.Lifetimes.{Lfts}
 use Rattle.rules.specs.Limits.{defaultWord}
@@ -9,7 +11,10 @@ use Rattle.rules.specs.Promise.{Fixes}
 use Rattle.rules.proofs.Promise.{fixes}
 use Rattle.trace.specs.Answers.{after}
 use Rattle.trace.specs.declared.RunAnswer.{RunAnswer}
+use Rattle.vote.specs.declared.Vote.{Vote as State}
+use Rattle.vote.specs.declared.VotePart.{VotePart}
 use Rattle.vote.specs.Answers.{numberOf, wordOf, markOf}
+use Rattle.vote.specs.Parts.{partOf}
 use Rattle.vote.specs.Vote
 use Rattle.vote.specs.Vote.{fresh, madeOf, badState, stepOf}
 use Rattle.vote.specs.Run.{steps, shownWord, shownMark, answerOf}
@@ -22,6 +27,7 @@ use Rattle.vote.proofs.Vote.bad_state.Reads as bad-state
 use Rattle.vote.proofs.Vote.clauses.Reads as clauses
 use Rattle.vote.proofs.Vote.step.Reads as step
 use Rattle.vote.proofs.run.Reads as run
+use Rattle.vote.proofs.columns.write_steps.Reads as write-steps
 
 pub number-unique : Fixes (number.Learnt tt) (λ z e. z) (λ a. numberOf (a .0))
 number-unique = fixes (λ a z e p. p)
@@ -63,3 +69,17 @@ pub run-unique :
     (λ z e. let lent = e .1 .1 .1 .1 .1 in (z, now (lent .0), now (lent .1 .0)))
     (λ a. let lent = a .1 .1 .1 in ran (a .0) (a .1 .0) (a .1 .1 .0) (now (lent .0)) (now (lent .1 .0)) (now (lent .1 .1 .0)) (now (lent .1 .1 .1 .0)))
 run-unique κs = fixes (λ a z e p. cc)
+
+-- the steps over two columns: what is taken and left, and the words and marks
+abbrev went : Bool → State → List ℕ → List ℕ → List ℕ → List ℕ → VotePart × List ℕ × List ℕ
+went once s a b words marks =
+    let r = partOf once s a b words marks in
+    let taken = steps s (take (r .end) (zip a b)) in
+    (r, map shownWord taken ++ drop (r .end) words, map shownMark taken ++ drop (r .end) marks)
+
+pub write-steps-unique :
+    (κs : Lfts 4)
+    → Fixes {O = VotePart × List ℕ × List ℕ} (write-steps.Learnt κs)
+    (λ z e. let lent = e .1 .1 .1 .1 in (z, now (lent .0), now (lent .1 .0)))
+    (λ a. let lent = a .1 .1 in went (a .1 .0) (a .0) (now (lent .0)) (now (lent .1 .0)) (now (lent .1 .1 .0)) (now (lent .1 .1 .1 .0)))
+write-steps-unique κs = fixes (λ a z e p. cc)

@@ -1,4 +1,5 @@
 pub mod Alarms
 pub mod Answers
+pub mod Parts
 pub mod Run
 pub mod Vote

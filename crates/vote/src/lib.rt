@@ -1,12 +1,12 @@
 // The vote of two words (document 000, definitions 14 and 16): a state, one step on it, and a run over two lent columns.
+pub mod columns;
+
 use trace::RunAnswer;
 ghost use mathlib.Core.Path.{_≡_};
-ghost use mathlib.Core.List.{map, zip};
-ghost use lib.ListN.{length};
 ghost use Rattle.rules.specs.Limits.{defaultWord};
 ghost use Rattle.vote.specs.Answers.{numberOf, wordOf, markOf};
 ghost use Rattle.vote.specs.Vote.{fresh, agreed, held, clauses, madeOf, badState, stepOf};
-ghost use Rattle.vote.specs.Run.{steps, shownWord, shownMark, Ran};
+ghost use Rattle.vote.specs.Run.{Ran};
 
 // The state of a vote, with its width n and its count N (`need`).
 pub struct Vote {
@@ -35,6 +35,13 @@ pub enum VoteAnswer {
 pub struct VoteStep {
     pub state: Vote,
     pub answer: VoteAnswer,
+}
+
+// Steps over a part of two columns: the state that they leave, the number of the sample after them, and whether no more are taken.
+pub struct VotePart {
+    pub state: Vote,
+    pub end: usize,
+    pub over: bool,
 }
 
 impl VoteAnswer {
@@ -186,26 +193,6 @@ impl Vote {
     }
 }
 
-// A step for each sample, from a state, without resets: what each shows is written.
-fn write_steps(start: Vote, a: &[u32], b: &[u32], words: &mut [u32], marks: &mut [u8])
-    requires { ⌜ length (now a) ≡ length (now b) ⌝ }
-    requires { ⌜ length (now a) ≡ length (now words) ⌝ }
-    requires { ⌜ length (now a) ≡ length (now marks) ⌝ }
-    ensures { λ _. ⌜ now (words .exit) ≡ map shownWord (steps start (zip (now (a .entry)) (now (b .entry)))) ⌝ }
-    ensures { λ _. ⌜ now (marks .exit) ≡ map shownMark (steps start (zip (now (a .entry)) (now (b .entry)))) ⌝ }
-{
-    let mut state = start;
-    let mut i = 0;
-    while i < a.len() {
-        let taken = state.clauses(a[i], b[i], false);
-        let answer = taken.answer;
-        state = taken.state;
-        words[i] = answer.word();
-        marks[i] = answer.mark();
-        i += 1;
-    }
-}
-
 // A run over two lent columns, from a fresh state, without resets.
 pub fn run(
     n: u32,
@@ -225,6 +212,6 @@ pub fn run(
     let RunAnswer::Done = answer else {
         return answer;
     };
-    write_steps(Vote::fresh(n, need, word), a, b, words, marks);
+    columns::take_steps(Vote::fresh(n, need, word), false, a, b, words, marks);
     RunAnswer::Done
 }

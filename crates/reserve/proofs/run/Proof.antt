@@ -9,6 +9,7 @@ use Rattle.rules.proofs.Readings.{Runs, run-makes}
 use Rattle.rules.proofs.Tables.{or-each}
 use Rattle.trace.specs.Samples.{somewhere, outsideFour}
 use Rattle.trace.proofs.Runs.{answer-done}
+use Rattle.reserve.specs.declared.Reserve.{Reserve}
 use Rattle.reserve.specs.declared.ReserveMade.{ReserveMade}
 use Rattle.reserve.specs.Reserve.{fresh}
 use Rattle.reserve.specs.Run.{samplesOf, unequal, answerOf}
@@ -34,19 +35,19 @@ fine : (c : tie.After-enum-told) → let x = c .before .before .before .before .
     (somewhere (outsideFour (x .n)) (samplesOf a b c d))
 fine c = answer-done _ _ _ _ _ outsideFour _ (sym (answered (c .before .before)) ∙ c .enum-told .given .1)
 
-write-steps-requires : tie.Need-write-steps-requires
-write-steps-requires c κs =
-    let columns = or-each (or-each (same _ _) (same _ _)) (same _ _) in
-    let slices = or-each (same _ _) (same _ _) in
-    let p = or-each columns slices (fine (c .before .before .before .before) .alike) in
-    ((p .0 .0 .0, p .0 .0 .1, p .0 .1), p .1)
-
 -- the run starts from the fresh state
 start : (c : tie.After-from-word) → let x = c .before .before .before .before .before .before .before .before .before .before .before .args in
     c .from-word .result .state ≡ fresh (x .n) (x .need) (x .word)
 start c =
     let f = fine (c .before) in
     ap (λ (m : ReserveMade). m .state) (c .from-word .ensures ∙ made-fresh _ _ _ (run-makes _ _ _ _ _ _ f))
+
+write-steps-requires : tie.Need-write-steps-requires
+write-steps-requires c κs =
+    let columns = or-each (or-each (same _ _) (same _ _)) (same _ _) in
+    let slices = or-each (same _ _) (same _ _) in
+    let p = or-each columns slices (fine (c .before .before .before .before) .alike) in
+    ((p .0 .0 .0, p .0 .0 .1, p .0 .1), (p .1 .0, (p .1 .1, ap (λ (s : Reserve). s .phase) (start (c .before .before .before)))))
 
 returns-2 : tie.Need-returns-2
 returns-2 c =

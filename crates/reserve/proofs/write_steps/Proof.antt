@@ -1,78 +1,60 @@
--- `reserve::write_steps` meets its contract. The invariant: each slice is written before i, and the samples from i on give the rest.
-use mathlib.Core.Path.{_≡_}
-use Prim.Native.Nat.{_-_, _≤_}
-use native.Mathlib.Omega.{arith}
+-- `reserve::write_steps` meets its contract: units 1 and 2 up to their first alarm, and units 3 and 4 from the hand-over on.
+use mathlib.Core.Path.{_∙_}
+use mathlib.Core.Bool.{true}
+use Rattle.vote.proofs.Parts.{as-taken}
+use Rattle.reserve.proofs.Parts.{words-in-parts, marks-in-parts, words-in-one, marks-in-one}
 use borrow.Author.Needs.{needs}
-use lib.ListN.{length}
-use Rattle.trace.proofs.FillPairs.{FilledFour, start-four, turn-four, filled-four}
-use Rattle.reserve.specs.Run.{stepped, leaves, shownWord, shownMark}
 use Rattle.reserve.proofs.write_steps.Statement.{statement}
 use Rattle.reserve.proofs.write_steps.Tie as tie
 
-abbrev Inv-loop : tie.InvT-loop
-Inv-loop a b c d words₀ marks₀ state₀ i₀ words marks state i =
-    (i ≤ length a)
-    × ((length a ≡ length b) × (length a ≡ length c) × (length a ≡ length d))
-    × FilledFour stepped leaves shownWord state₀ a b c d words i state
-    × FilledFour stepped leaves shownMark state₀ a b c d marks i state
+write-steps-requires : tie.Need-write-steps-requires
+write-steps-requires c κs = search needs
 
-abbrev μ-loop : tie.MeasureT-loop
-μ-loop a b c d words₀ marks₀ state₀ i₀ words marks state i = length a - i
+take-over-requires : tie.Need-take-over-requires
+take-over-requires c κs = search needs
 
-loop-holds : tie.Need-loop-holds Inv-loop μ-loop
-loop-holds c =
-    let s = c .before .before .before .before .before .before in
-    let a = s .args in (
-      omega arith,
-      s .pre .0,
-      start-four stepped leaves shownWord (a .start) (a .a .now) (a .b .now) (a .c .now) (a .d .now) (s .pre .0) (a .words .now) (s .pre .1 .0),
-      start-four stepped leaves shownMark (a .start) (a .a .now) (a .b .now) (a .c .now) (a .d .now) (s .pre .0) (a .marks .now) (s .pre .1 .1),
-    )
+same-length : tie.Need-same-length
+same-length c = search needs
 
-loop-again : tie.Need-loop-again Inv-loop μ-loop
-loop-again c =
-    let taken = c .before .before .before in
-    let in-loop = taken .before .before .before .before .before in
-    let inv = in-loop .before .loop .inv in
-    let t = taken .clauses .result in
-    let e = taken .clauses .ensures in
-    let more = in-loop .loop-test .taken in (
-      omega arith,
-      inv .1,
-      turn-four stepped leaves shownWord _ _ _ _ _ (inv .1) _ _ _ t _ e (c .before .word .ensures) more (inv .2),
-      turn-four stepped leaves shownMark _ _ _ _ _ (inv .1) _ _ _ t _ e (c .mark .ensures) more (inv .3),
-    )
+same-length-2 : tie.Need-same-length-2
+same-length-2 c = search needs
 
-returns : tie.Need-returns Inv-loop μ-loop
+returns : tie.Need-returns
 returns c =
-    let inv = c .before .loop .inv in
-    let past = c .loop-test .left in
-    (filled-four stepped leaves shownWord _ _ _ _ _ (inv .1) _ _ _ past (inv .2), filled-four stepped leaves shownMark _ _ _ _ _ (inv .1) _ _ _ past (inv .3))
+    let wrote = c .before .before .before .before .before .before .before .before .before .before .before .before in
+    let start = c .before .before .before .before .before .before .before .before .before .before .before .before .before .before .before .before .before .before .before .before .before in
+    let x = start .args in
+    let pre = start .pre in
+    let alike = pre .0 in
+    let p = as-taken true (x .start .vote) (x .a .now) (x .b .now) (x .words .now) (x .marks .now) (alike .0) (pre .1 .0) (pre .1 .1 .0) _ _ _ (wrote .write-steps .ensures) in
+    let over = c .before .before .before .before .take-over .ensures in
+    (over .0 ∙ words-in-parts (x .start) (pre .1 .1 .1) (x .a .now) (x .b .now) (x .c .now) (x .d .now) (alike .0) (alike .1) (alike .2) _ _ _ _ _ _ p, over .1 ∙ marks-in-parts (x .start) (pre .1 .1 .1) (x .a .now) (x .b .now) (x .c .now) (x .d .now) (alike .0) (alike .1) (alike .2) _ _ _ _ _ _ p)
+
+same-length-3 : tie.Need-same-length-3
+same-length-3 c = search needs
+
+same-length-4 : tie.Need-same-length-4
+same-length-4 c = search needs
+
+returns-2 : tie.Need-returns-2
+returns-2 c =
+    let wrote = c .before .before .before .before .before in
+    let start = c .before .before .before .before .before .before .before .before .before .before .before .before .before .before in
+    let x = start .args in
+    let pre = start .pre in
+    let alike = pre .0 in
+    let p = as-taken true (x .start .vote) (x .a .now) (x .b .now) (x .words .now) (x .marks .now) (alike .0) (pre .1 .0) (pre .1 .1 .0) _ _ _ (wrote .write-steps .ensures) in
+    (words-in-one (x .start) (pre .1 .1 .1) (x .a .now) (x .b .now) (x .c .now) (x .d .now) (alike .0) (alike .1) (alike .2) _ _ _ _ _ _ p (c .if1 .left), marks-in-one (x .start) (pre .1 .1 .1) (x .a .now) (x .b .now) (x .c .now) (x .d .now) (alike .0) (alike .1) (alike .2) _ _ _ _ _ _ p (c .if1 .left))
 
 pub write-steps-spec : {M : Type 1} → statement M
 write-steps-spec =
     tie.close
     (tie.spec
-    Inv-loop
-    μ-loop
-    loop-holds
-    (λ c. search needs)
-    (λ c. search needs)
-    (λ c. omega arith)
-    (λ c. omega arith)
-    (λ c. omega arith)
-    (λ c. omega arith)
-    (λ c. omega arith)
-    (λ c. omega arith)
-    (λ _ _. tt)
-    (λ _ _. tt)
-    (λ c. omega arith)
-    (λ c. omega arith)
-    (λ _ _. tt)
-    (λ c. omega arith)
-    (λ c. omega arith)
-    (λ c. omega arith)
-    loop-again
-    (λ c. omega arith)
-    (λ c. omega arith)
-    returns)
+    write-steps-requires
+    take-over-requires
+    same-length
+    same-length-2
+    returns
+    same-length-3
+    same-length-4
+    returns-2)

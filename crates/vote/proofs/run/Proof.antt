@@ -9,6 +9,7 @@ use Rattle.rules.proofs.Tables.{or-each}
 use Rattle.trace.specs.Samples.{outsidePair}
 use Rattle.trace.proofs.Runs.{answer-done}
 use Rattle.vote.specs.Run.{answerOf, unequal}
+use Rattle.vote.proofs.Parts.{whole-words, whole-marks}
 use Rattle.vote.proofs.run.Statement.{statement}
 use Rattle.vote.proofs.run.Tie as tie
 
@@ -26,8 +27,8 @@ alike : (c : tie.After-enum-told) → let a = c .before .before .before .before 
     differ (length (a .a .now)) (length (a .b .now)) || unequal (a .a .now) (a .words .now) (a .marks .now) ≡ false
 alike c = answer-done _ _ _ _ _ outsidePair _ (sym (answered (c .before .before)) ∙ c .enum-told .given .1) .alike
 
-write-steps-requires : tie.Need-write-steps-requires
-write-steps-requires c κs = or-each (same _ _) (or-each (same _ _) (same _ _)) (alike (c .before .before .before))
+take-steps-requires : tie.Need-take-steps-requires
+take-steps-requires c κs = or-each (same _ _) (or-each (same _ _) (same _ _)) (alike (c .before .before .before))
 
 returns-2 : tie.Need-returns-2
 returns-2 c =
@@ -36,8 +37,8 @@ returns-2 c =
     let ran = f .before .enum-told .given .1 in
     record {
       answered = sym ran ∙ answered (f .before .before .before);
-      words-after = rw (← f .fresh .ensures) (wrote .write-steps .ensures .0);
-      marks-after = rw (← f .fresh .ensures) (wrote .write-steps .ensures .1);
+      words-after = rw (← f .fresh .ensures) (whole-words _ _ _ _ _ _ _ _ (wrote .take-steps .ensures .1));
+      marks-after = rw (← f .fresh .ensures) (whole-marks _ _ _ _ _ _ _ _ (wrote .take-steps .ensures .1));
     }
 
 pub run-spec : {M : Type 1} → statement M
@@ -50,7 +51,7 @@ run-spec =
     (λ c. search needs)
     returns
     (λ _ _. tt)
-    write-steps-requires
+    take-steps-requires
     (λ c. search needs)
     (λ c. search needs)
     returns-2)

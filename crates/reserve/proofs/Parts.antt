@@ -1,0 +1,146 @@
+-- A run from a primary state is that of units 1 and 2 up to and with the first alarm, and of units 3 and 4 from then on.
+use mathlib.Core.Path.{_≡_, refl, sym, ap, _∙_}
+use mathlib.Core.List.{List, [], _∷_, _++_, map, zip, zipWith, append-assoc, append-nil}
+use mathlib.Core.Bool.{Bool, true, false}
+use Prim.Native.Nat.{ℕ, suc, _+_, _-_, _<_, _≤_}
+use native.Mathlib.Numerals.{add-one}
+use native.Mathlib.Omega.{arith}
+use lib.Dec.{eqb}
+use lib.ListN.{length, getD, take, drop, set, length-drop, length-set, drop-of-length-le}
+use lib.Seq.{drop-cons, drop-length, take-all, take-suc-set}
+use borrow.Rule.Slice.PartAt.{part-to-end}
+use borrow.Rule.Slice.PartMut.{putMid, post-is}
+use Rattle.rules.specs.Choose.{if_then_else_}
+use Rattle.trace.specs.Trace.{trace, left}
+use Rattle.trace.proofs.Columns.{zip-length, zip-at, zip-drop}
+use Rattle.vote.specs.Answers.{wordOf, markOf}
+use Rattle.vote.specs.Parts.{takenBy, Taken}
+use Rattle.vote.specs.Run as vote
+use Rattle.vote.specs.Vote as voted
+use Rattle.vote.specs.declared.Vote.{Vote}
+use Rattle.vote.specs.declared.VoteAnswer.{VoteAnswer}
+use Rattle.vote.specs.declared.VoteAnswer.the-variants.{Agreed, Held, Alarm, Refused}
+use Rattle.vote.specs.declared.VoteStep.{VoteStep}
+use Rattle.reserve.specs.declared.Phase.{Phase}
+use Rattle.reserve.specs.declared.Phase.the-variants.{Primary, TakingOver, Reserve as Reserved}
+use Rattle.reserve.specs.declared.Reserve.{Reserve}
+use Rattle.reserve.specs.declared.ReserveStep.{ReserveStep}
+use Rattle.reserve.specs.Parts.{tookOver}
+use Rattle.reserve.specs.Reserve.{phaseAfter, clauses}
+use Rattle.reserve.specs.Run.{steps, samplesOf, shownWord, shownMark}
+
+abbrev in-phase : Phase → Vote → Reserve
+in-phase p v = record { phase = p; vote = v }
+
+phase-is : (r : VoteAnswer) → phaseAfter r ≡ (if eqb (markOf r) 2 then TakingOver else Primary)
+phase-is (Agreed w) = refl
+phase-is (Held w) = refl
+phase-is (Alarm w) = refl
+phase-is (Refused k) = refl
+
+-- g is what a slice shows of an answer; us and vs are the samples of the two pairs
+module _ (g : VoteAnswer → ℕ) where
+  abbrev ofVote : VoteStep → ℕ
+  ofVote t = g (t .answer)
+
+  abbrev ofReserve : ReserveStep → ℕ
+  ofReserve t = g (t .answer)
+
+  in-reserve : (v : Vote) (us vs : List (ℕ × ℕ)) → length us ≡ length vs → map ofReserve (steps (in-phase Reserved v) (zip us vs)) ≡ map ofVote (vote.steps v vs)
+  unfolding trace clauses zip zipWith
+  in-reserve v [] [] e = refl
+  in-reserve v [] (y ∷ vs) e = absurd (let z : 0 ≡ suc (length vs) = e in omega arith)
+  in-reserve v (x ∷ us) [] e = absurd (let z : suc (length us) ≡ 0 = e in omega arith)
+  in-reserve v (x ∷ us) (y ∷ vs) e =
+      ap (λ (l : List ℕ). g (vote.plain v y .answer) ∷ l)
+      (in-reserve (vote.plain v y .state) us vs (let z : suc (length us) ≡ suc (length vs) = e in omega arith))
+
+  taking-over : (v : Vote) (us vs : List (ℕ × ℕ)) → length us ≡ length vs → map ofReserve (steps (in-phase TakingOver v) (zip us vs)) ≡ map ofVote (tookOver v vs)
+  unfolding trace clauses zip zipWith tookOver
+  taking-over v [] [] e = refl
+  taking-over v [] (y ∷ vs) e = absurd (let z : 0 ≡ suc (length vs) = e in omega arith)
+  taking-over v (x ∷ us) [] e = absurd (let z : suc (length us) ≡ 0 = e in omega arith)
+  taking-over v (x ∷ us) (y ∷ vs) e =
+      let t = voted.clauses v (y .0) (y .1) true in
+      ap (λ (l : List ℕ). g (t .answer) ∷ l) (in-reserve (t .state) us vs (let z : suc (length us) ≡ suc (length vs) = e in omega arith))
+
+  pub in-parts :
+      (v : Vote) (us vs : List (ℕ × ℕ)) → length us ≡ length vs → let end = takenBy true v us in
+      map ofReserve (steps (in-phase Primary v) (zip us vs))
+      ≡ map ofVote (vote.steps v (take end us)) ++ map ofVote (tookOver (left vote.plain vote.leaves v (take end us)) (drop end vs))
+  unfolding trace left clauses zip zipWith takenBy tookOver
+  in-parts v [] [] e = refl
+  in-parts v [] (y ∷ vs) e = absurd (let z : 0 ≡ suc (length vs) = e in omega arith)
+  in-parts v (x ∷ us) [] e = absurd (let z : suc (length us) ≡ 0 = e in omega arith)
+  in-parts v (x ∷ us) (y ∷ vs) e =
+      let t = vote.plain v x in
+      let rest : length us ≡ length vs = (let z : suc (length us) ≡ suc (length vs) = e in omega arith) in
+      rw (phase-is (t .answer)) (go (eqb (markOf (t .answer)) 2) (taking-over (t .state) us vs rest) (in-parts (t .state) us vs rest)) where
+        first : VoteStep
+        first = vote.plain v x
+
+        later : ℕ
+        later = takenBy true (first .state) us
+
+        go :
+            (alarm : Bool)
+            → map ofReserve (steps (in-phase TakingOver (first .state)) (zip us vs)) ≡ map ofVote (tookOver (first .state) vs)
+            → map ofReserve (steps (in-phase Primary (first .state)) (zip us vs))
+            ≡ map ofVote (vote.steps (first .state) (take later us)) ++ map ofVote (tookOver (left vote.plain vote.leaves (first .state) (take later us)) (drop later vs))
+            → let end = suc (if alarm then 0 else later) in
+            g (first .answer) ∷ map ofReserve (steps (in-phase (if alarm then TakingOver else Primary) (first .state)) (zip us vs))
+            ≡ map ofVote (vote.steps v (take end (x ∷ us))) ++ map ofVote (tookOver (left vote.plain vote.leaves v (take end (x ∷ us))) (drop end (y ∷ vs)))
+        go true over on = ap (λ (l : List ℕ). g (first .answer) ∷ l) over
+        go false over on = ap (λ (l : List ℕ). g (first .answer) ∷ l) on
+
+-- the steps of `vote::columns::write_steps` on units 1 and 2, and those from the hand-over on, are the run
+module _
+    (s : Reserve) (primary : s .phase ≡ Primary) (a b c d : List ℕ) (ab : length a ≡ length b) (ac : length a ≡ length c) (ad : length a ≡ length d)
+    (words₀ marks₀ : List ℕ) (end : ℕ) (v : Vote) (words marks : List ℕ) (p : Taken true (s .vote) (zip a b) words₀ marks₀ end v true words marks) where
+  shown : (g : VoteAnswer → ℕ) → map (ofVote g) (vote.steps (s .vote) (take end (zip a b))) ++ map (ofVote g) (tookOver v (drop end (zip c d))) ≡ map (ofReserve g) (steps s (samplesOf a b c d))
+  shown g =
+      let cd : length c ≡ length d = omega arith in
+      let alike : length (zip a b) ≡ length (zip c d) = omega (arith, zip-length a b ab, zip-length c d cd) in
+      let here : takenBy true (s .vote) (zip a b) ≡ end = omega (arith, p .counted) in
+      let start : in-phase Primary (s .vote) ≡ s = ap (λ (q : Phase). in-phase q (s .vote)) (sym primary) in
+      sym (rw (start, here, p .leaving) at (in-parts g (s .vote) (zip a b) (zip c d) alike))
+
+  pub words-in-parts : take end words ++ map vote.shownWord (tookOver v (drop end (zip c d))) ≡ map shownWord (steps s (samplesOf a b c d))
+  words-in-parts = rw (p .words-shown) (shown wordOf)
+
+  pub marks-in-parts : take end marks ++ map vote.shownMark (tookOver v (drop end (zip c d))) ≡ map shownMark (steps s (samplesOf a b c d))
+  marks-in-parts = rw (p .marks-shown) (shown markOf)
+
+  -- without a hand-over before the end, units 1 and 2 are all
+  module _ (all : length a ≤ end) where
+    none-left : drop end (zip c d) ≡ []
+    none-left = let past : length (zip c d) ≤ end = omega (arith, zip-length c d (omega arith)) in drop-of-length-le (zip c d) past
+
+    pub words-in-one : words ≡ map shownWord (steps s (samplesOf a b c d))
+    unfolding tookOver
+    words-in-one = rw (none-left, take-all end words (omega (arith, p .words-long, zip-length a b ab)), append-nil) at words-in-parts
+
+    pub marks-in-one : marks ≡ map shownMark (steps s (samplesOf a b c d))
+    unfolding tookOver
+    marks-in-one = rw (none-left, take-all end marks (omega (arith, p .marks-long, zip-length a b ab)), append-nil) at marks-in-parts
+
+-- the rest of a slice is put in the place of all that stands from k on
+put-rest : (k : ℕ) (l m : List ℕ) → k ≤ length l → putMid k (length l - k) l m ≡ take k l ++ m
+put-rest k l m h = rw (post-is k (length l) l h, drop-length, append-nil)
+
+pub rests-alike : (k : ℕ) (l m : List ℕ) → length l ≡ length m → length (take (length l - k) (drop k l)) ≡ length (take (length m - k) (drop k m))
+rests-alike k l m e = rw (part-to-end l k, part-to-end m k, length-drop k l, length-drop k m, e)
+
+-- the step t on sample `over` is stored, and the steps from there on fill the rest of the slice
+module _ (f : VoteStep → ℕ) (s : Vote) (over : ℕ) (c d l : List ℕ) (h : over < length c) (cd : length c ≡ length d) (cl : length c ≡ length l) where
+  pub handed-over :
+      (t : VoteStep) (v : ℕ) (m : List ℕ) → t ≡ voted.clauses s (getD c over 0) (getD d over 0) true → v ≡ f t
+      → m ≡ map f (vote.steps (t .state) (zip (take (length c - (over + 1)) (drop (over + 1) c)) (take (length d - (over + 1)) (drop (over + 1) d))))
+      → putMid (over + 1) (length (set l over v) - (over + 1)) (set l over v) m ≡ take over l ++ map f (tookOver s (drop over (zip c d)))
+  unfolding tookOver
+  handed-over t v m q w e =
+      let first : drop over (zip c d) ≡ (getD c over 0, getD d over 0) ∷ zip (drop (suc over) c) (drop (suc over) d) =
+      drop-cons (zip c d) over (0, 0) (omega (arith, zip-length c d cd)) ∙ rw (zip-at c d over 0 0 h cd, zip-drop (suc over) c d cd) in
+      let rest = rw (part-to-end c (over + 1), part-to-end d (over + 1), add-one) at e in
+      put-rest (over + 1) (set l over v) m (omega (arith, length-set l over v))
+      ∙ rw (add-one, take-suc-set l over v (omega arith), append-assoc, first, rest, w, q)

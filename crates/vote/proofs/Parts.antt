@@ -1,0 +1,164 @@
+-- A part of a run over two columns: it starts with nothing taken, each turn takes one sample more, and past the last it is over.
+use mathlib.Core.Path.{_≡_, refl, sym, ap, _∙_}
+use mathlib.Core.List.{List, [], _∷_, map, zip}
+use mathlib.Core.Bool.{Bool, true, false, _&&_, _||_}
+use Prim.Native.Nat.{ℕ, suc, _+_, _-_, _<_, _≤_}
+use native.Mathlib.Numerals.{add-one}
+use native.Mathlib.Omega.{arith}
+use lib.Dec.{eqb}
+use lib.ListN.{length, getD, take, drop, set, length-set, length-append, length-drop, length-map, drop-of-length-le, take-append-drop}
+use lib.Seq.{drop-cons, drop-drop, drop-set-lt, drop-at, take-all, take-at, length-take-le}
+use borrow.Author.Tests.{eq-eqb}
+use Rattle.rules.specs.Choose.{if_then_else_}
+use Rattle.rules.specs.Limits.{differ}
+use Rattle.trace.specs.Trace.{trace, left}
+use Rattle.trace.proofs.Columns.{zip-length, zip-at}
+use Rattle.trace.proofs.Parts.{left-turn, shown-turn}
+use Rattle.trace.proofs.Steps.{trace-length}
+use Rattle.vote.specs.declared.Vote.{Vote}
+use Rattle.vote.specs.declared.VotePart.{VotePart}
+use Rattle.vote.specs.declared.VoteStep.{VoteStep}
+use Rattle.vote.specs.Parts.{takenBy, part, Parts, Taken}
+use Rattle.vote.specs.Run.{plain, leaves, steps, shownWord, shownMark, unequal}
+use Rattle.vote.specs.Vote.{agreed, clauses}
+
+pub takes-all : (s : Vote) (xs : List (ℕ × ℕ)) → takenBy false s xs ≡ length xs
+unfolding takenBy
+takes-all s [] = refl
+takes-all s (x ∷ xs) = ap suc (takes-all (leaves (plain s x)) xs)
+
+pub agreed-step : (s : Vote) (a b : ℕ) → a ≡ b → agreed s a ≡ plain s (a, b)
+unfolding clauses
+agreed-step s a b e = rw (eq-eqb a b e)
+
+no-alarm : (once : Bool) (m : ℕ) → eqb m 2 ≡ false → once && eqb m 2 ≡ false
+no-alarm true m e = e
+no-alarm false m e = refl
+
+-- what is stored at i changes nothing behind it
+rest-turn : (l l₀ : List ℕ) (i v : ℕ) → drop i l ≡ drop i l₀ → drop (i + 1) (set l i v) ≡ drop (i + 1) l₀
+rest-turn l l₀ i v e = drop-set-lt (i + 1) l i v (omega arith) ∙ sym (drop-drop 1 i l) ∙ ap (drop 1) e ∙ drop-drop 1 i l₀
+
+module _ (once : Bool) (s₀ : Vote) (a b : List ℕ) (ab : length a ≡ length b) (words₀ marks₀ : List ℕ) where
+  abbrev samples : List (ℕ × ℕ)
+  samples = zip a b
+
+  as-long : length samples ≡ length a
+  as-long = zip-length a b ab
+
+  pub none-taken : length a ≡ length words₀ → length a ≡ length marks₀ → Taken once s₀ samples words₀ marks₀ 0 s₀ false words₀ marks₀
+  unfolding trace left
+  none-taken w m =
+      record {
+        counted = omega arith;
+        leaving = refl;
+        words-long = omega (arith, as-long);
+        marks-long = omega (arith, as-long);
+        words-shown = refl;
+        marks-shown = refl;
+        words-rest = refl;
+        marks-rest = refl;
+      }
+
+  module _ (words marks : List ℕ) (i : ℕ) (s : Vote) where
+    pub all-taken : length a ≤ i → Taken once s₀ samples words₀ marks₀ i s false words marks → Taken once s₀ samples words₀ marks₀ i s true words marks
+    unfolding takenBy
+    all-taken h p =
+        let past : length samples ≤ i = omega (arith, as-long) in
+        record {
+          counted = rw (drop-of-length-le samples past) at (p .counted);
+          leaving = p .leaving;
+          words-long = p .words-long;
+          marks-long = p .marks-long;
+          words-shown = p .words-shown;
+          marks-shown = p .marks-shown;
+          words-rest = p .words-rest;
+          marks-rest = p .marks-rest;
+        }
+
+    -- the step t on sample i is taken, and what it shows is stored
+    pub one-taken :
+        (t : VoteStep) (w m : ℕ) → t ≡ plain s (getD a i 0, getD b i 0) → w ≡ shownWord t → m ≡ shownMark t → i < length a
+        → Taken once s₀ samples words₀ marks₀ i s false words marks
+        → Taken once s₀ samples words₀ marks₀ (i + 1) (leaves t) (once && eqb m 2) (set words i w) (set marks i m)
+    unfolding takenBy
+    one-taken t w m q v u h p =
+        let more : i < length samples = omega (arith, as-long) in
+        let here : t ≡ plain s (getD samples i (0, 0)) = q ∙ ap (plain s) (sym (zip-at a b i 0 0 h ab)) in
+        let there = here ∙ ap (λ (s : Vote). plain s (getD samples i (0, 0))) (sym (p .leaving)) in
+        let rest = rw (drop-cons samples i (0, 0) more) at (p .counted) in
+        record {
+          counted = rw (u, here, add-one) (omega (arith, rest));
+          leaving = rw (add-one, left-turn plain leaves s₀ samples i (0, 0) more) (ap leaves (sym there));
+          words-long = length-set words i w ∙ p .words-long;
+          marks-long = length-set marks i m ∙ p .marks-long;
+          words-shown = rw add-one (shown-turn plain leaves s₀ samples i (0, 0) more shownWord words t w (omega (arith, p .words-long)) there v (p .words-shown));
+          marks-shown = rw add-one (shown-turn plain leaves s₀ samples i (0, 0) more shownMark marks t m (omega (arith, p .marks-long)) there u (p .marks-shown));
+          words-rest = rest-turn words words₀ i w (p .words-rest);
+          marks-rest = rest-turn marks marks₀ i m (p .marks-rest);
+        }
+
+    -- one that agrees never ends it
+    pub agreed-taken :
+        getD a i 0 ≡ getD b i 0 → i < length a → Taken once s₀ samples words₀ marks₀ i s false words marks
+        → Taken once s₀ samples words₀ marks₀ (i + 1) (leaves (agreed s (getD a i 0))) false (set words i (getD a i 0)) (set marks i 0)
+    agreed-taken e h p = rw (← no-alarm once 0 refl) (one-taken (agreed s (getD a i 0)) (getD a i 0) 0 (agreed-step s (getD a i 0) (getD b i 0) e) refl refl h p)
+
+-- a part that no alarm ends is the whole run
+module _ (s₀ : Vote) (xs : List (ℕ × ℕ)) (words₀ marks₀ : List ℕ) (end : ℕ) (s : Vote) (words marks : List ℕ) (p : Taken false s₀ xs words₀ marks₀ end s true words marks) where
+  every : length xs ≤ end
+  every = omega (arith, p .counted, takes-all s₀ xs)
+
+  pub whole-words : words ≡ map shownWord (steps s₀ xs)
+  whole-words = rw (take-all end xs every, take-all end words (omega (arith, every, p .words-long))) at (p .words-shown)
+
+  pub whole-marks : marks ≡ map shownMark (steps s₀ xs)
+  whole-marks = rw (take-all end xs every, take-all end marks (omega (arith, every, p .marks-long))) at (p .marks-shown)
+
+-- what is promised is what the loops leave, where columns and slices are of one length
+taken-most : (once : Bool) (s : Vote) (xs : List (ℕ × ℕ)) → takenBy once s xs ≤ length xs
+unfolding takenBy
+taken-most once s [] = omega arith
+taken-most once s (x ∷ xs) = go (once && eqb (shownMark (plain s x)) 2) (taken-most once (leaves (plain s x)) xs) where
+  go : (b : Bool) → takenBy once (leaves (plain s x)) xs ≤ length xs → suc (if b then 0 else takenBy once (leaves (plain s x)) xs) ≤ suc (length xs)
+  go true h = omega arith
+  go false h = omega arith
+
+shown-long : (f : VoteStep → ℕ) (s : Vote) (xs : List (ℕ × ℕ)) (end : ℕ) → end ≤ length xs → length (map f (steps s (take end xs))) ≡ end
+shown-long f s xs end h = length-map (steps s (take end xs)) f ∙ trace-length plain leaves s (take end xs) ∙ length-take-le end xs h
+
+module _ (once : Bool) (s : Vote) (a b words marks : List ℕ) (alike : differ (length a) (length b) || unequal a words marks ≡ false) where
+  pub promised : (r : VotePart) (words′ marks′ : List ℕ) → r .over ≡ true → Taken once s (zip a b) words marks (r .end) (r .state) true words′ marks′ → Parts once s a b words marks r words′ marks′
+  promised r words′ marks′ o p =
+      let here : takenBy once s (zip a b) ≡ r .end = omega (arith, p .counted) in
+      record {
+        answered = rw (alike, here, p .leaving, ← o);
+        words-after = rw (← p .words-shown, ← p .words-rest) (sym (take-append-drop (r .end) words′));
+        marks-after = rw (← p .marks-shown, ← p .marks-rest) (sym (take-append-drop (r .end) marks′));
+      }
+
+module _ (once : Bool) (s : Vote) (a b words marks : List ℕ) (ab : length a ≡ length b) (aw : length a ≡ length words) (am : length a ≡ length marks) where
+  alike : differ (length a) (length b) || unequal a words marks ≡ false
+  alike = rw (eq-eqb (length a) (length b) ab, eq-eqb (length a) (length words) aw, eq-eqb (length a) (length marks) am)
+
+  pub as-taken : (r : VotePart) (words′ marks′ : List ℕ) → Parts once s a b words marks r words′ marks′ → Taken once s (zip a b) words marks (r .end) (r .state) true words′ marks′
+  as-taken r words′ marks′ p =
+      let xs = zip a b in
+      let is : r ≡ part once s xs = rw alike at (p .answered) in
+      let ended : r .end ≡ takenBy once s xs = ap (λ (r : VotePart). r .end) is in
+      let most : r .end ≤ length xs = omega (arith, ended, taken-most once s xs) in
+      let long = zip-length a b ab in
+      let words-end = shown-long shownWord s xs (r .end) most in
+      let marks-end = shown-long shownMark s xs (r .end) most in
+      let words-size : length words′ ≡ r .end + (length words - r .end) = rw (p .words-after, length-append, words-end, length-drop) in
+      let marks-size : length marks′ ≡ r .end + (length marks - r .end) = rw (p .marks-after, length-append, marks-end, length-drop) in
+      record {
+        counted = omega (arith, ended);
+        leaving = rw ended (sym (ap (λ (r : VotePart). r .state) is));
+        words-long = omega (arith, words-size, most, long, aw);
+        marks-long = omega (arith, marks-size, most, long, am);
+        words-shown = rw (p .words-after) (take-at _ _ (r .end) words-end);
+        marks-shown = rw (p .marks-after) (take-at _ _ (r .end) marks-end);
+        words-rest = rw (p .words-after) (drop-at (map shownWord (steps s (take (r .end) xs))) (drop (r .end) words) (r .end) words-end);
+        marks-rest = rw (p .marks-after) (drop-at (map shownMark (steps s (take (r .end) xs))) (drop (r .end) marks) (r .end) marks-end);
+      }

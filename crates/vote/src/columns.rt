@@ -1,0 +1,128 @@
+// Steps of a vote over two lent columns: the loops of its run, and of the reserve vote's.
+use crate::Vote;
+use crate::VotePart;
+ghost use mathlib.Core.Path.{_≡_};
+ghost use mathlib.Core.List.{zip};
+ghost use mathlib.Core.Bool.{true};
+ghost use Prim.Native.Nat.{_<_, _≤_};
+ghost use lib.ListN.{length, getD};
+ghost use Rattle.vote.specs.Parts.{Taken, Parts, GoesOn};
+
+// The samples in a row that disagree, from the first of them on: what each shows is written. With `once` an alarm ends it.
+fn write_apart(
+    start: Vote,
+    once: bool,
+    from: usize,
+    a: &[u32],
+    b: &[u32],
+    words: &mut [u32],
+    marks: &mut [u8],
+) -> VotePart
+    requires { ⌜ length (now a) ≡ length (now b) ⌝ }
+    requires { ⌜ length (now a) ≡ length (now words) ⌝ }
+    requires { ⌜ length (now a) ≡ length (now marks) ⌝ }
+    requires { ⌜ from < length (now a) ⌝ }
+    requires { ⌜ (getD (now a) from 0 ≡ getD (now b) from 0 → ⊥) ⌝ }
+    ensures { λ r. ⌜ (from < r .end) × (r .end ≤ length (now (a .entry))) ⌝ }
+    ensures { λ r. ⌜ GoesOn once (zip (now (a .entry)) (now (b .entry))) from start (now (words .entry)) (now (marks .entry))
+        r (now (words .exit)) (now (marks .exit)) ⌝ }
+{
+    let mut state = start;
+    let mut i = from;
+    while i < a.len() {
+        if a[i] == b[i] {
+            return VotePart {
+                state,
+                end: i,
+                over: false,
+            };
+        }
+        let taken = state.clauses(a[i], b[i], false);
+        let answer = taken.answer;
+        let mark = answer.mark();
+        state = taken.state;
+        words[i] = answer.word();
+        marks[i] = mark;
+        i += 1;
+        let over = once & (mark == 2);
+        if over {
+            return VotePart {
+                state,
+                end: i,
+                over,
+            };
+        }
+    }
+    VotePart {
+        state,
+        end: i,
+        over: false,
+    }
+}
+
+// A step for each sample, from a state, without resets: what each shows is written, up to the end or, with `once`, to the
+// first alarm. A sample that agrees takes the short way, and a row of others has its own loop, so that quiet traces are fast.
+pub(crate) fn take_steps(
+    start: Vote,
+    once: bool,
+    a: &[u32],
+    b: &[u32],
+    words: &mut [u32],
+    marks: &mut [u8],
+) -> VotePart
+    requires { ⌜ length (now a) ≡ length (now b) ⌝ }
+    requires { ⌜ length (now a) ≡ length (now words) ⌝ }
+    requires { ⌜ length (now a) ≡ length (now marks) ⌝ }
+    ensures { λ r. ⌜ r .over ≡ true ⌝ }
+    ensures { λ r. ⌜ Taken once start (zip (now (a .entry)) (now (b .entry))) (now (words .entry)) (now (marks .entry))
+        (r .end) (r .state) true (now (words .exit)) (now (marks .exit)) ⌝ }
+{
+    let mut state = start;
+    let mut i = 0;
+    while i < a.len() {
+        let word = a[i];
+        if word == b[i] {
+            state = state.agreed(word).state;
+            words[i] = word;
+            marks[i] = 0;
+            i += 1;
+        } else {
+            let row = write_apart(state, once, i, a, b, words, marks);
+            if row.over {
+                return row;
+            }
+            state = row.state;
+            i = row.end;
+        }
+    }
+    VotePart {
+        state,
+        end: i,
+        over: true,
+    }
+}
+
+// The same for rooms above, whatever is lent: where a length differs no step is taken.
+pub fn write_steps(
+    start: Vote,
+    once: bool,
+    a: &[u32],
+    b: &[u32],
+    words: &mut [u32],
+    marks: &mut [u8],
+) -> VotePart
+    ensures { λ r. ⌜ Parts once start (now (a .entry)) (now (b .entry)) (now (words .entry)) (now (marks .entry))
+        r (now (words .exit)) (now (marks .exit)) ⌝ }
+{
+    let len = a.len();
+    let unequal = (len != words.len()) | (len != marks.len());
+    let apart = (len != b.len()) | unequal;
+    if apart {
+        return VotePart {
+            state: start,
+            end: 0,
+            over: true,
+        };
+    }
+    take_steps(start, once, a, b, words, marks)
+}
