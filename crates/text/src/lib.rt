@@ -54,45 +54,27 @@ pub fn put_text(out: &mut [u8], at: usize, text: &[u8]) -> usize
     at
 }
 
-// A digit's code.
+// A decimal digit's code.
 fn glyph(d: u32) -> u8
-    requires { ⌜ d < 16 ⌝ }
+    requires { ⌜ d < 10 ⌝ }
     ensures { λ r. ⌜ r ≡ glyph d ⌝ }
 {
-    if d < 10 {
-        return 48 + d as u8;
-    }
-    87 + d as u8
+    48 + d as u8
 }
 
-// The loop of put_digits, from the last digit to the first.
-fn lay_digits(out: &mut [u8], at: usize, base: u32, k: usize, n: u32) -> usize
-    requires { ⌜ 0 < base ⌝ }
-    requires { ⌜ base ≤ 16 ⌝ }
+// The loop of put_decimal, from the last digit to the first.
+fn lay_digits(out: &mut [u8], at: usize, k: usize, n: u32) -> usize
     requires { ⌜ at + k ≤ length (now out) ⌝ }
-    ensures { λ r. ⌜ Wrote (now (out .entry)) at (digits base k n) r (now (out .exit)) ⌝ }
+    ensures { λ r. ⌜ Wrote (now (out .entry)) at (digits 10 k n) r (now (out .exit)) ⌝ }
 {
     let mut i = k;
     let mut rest = n;
     while i > 0 {
         i -= 1;
-        out[at + i] = glyph(rest % base);
-        rest /= base;
+        out[at + i] = glyph(rest % 10);
+        rest /= 10;
     }
     at + k
-}
-
-// The last k digits of n.
-fn put_digits(out: &mut [u8], at: usize, base: u32, k: usize, n: u32) -> usize
-    requires { ⌜ 0 < base ⌝ }
-    requires { ⌜ base ≤ 16 ⌝ }
-    ensures { λ r. ⌜ Placed (now (out .entry)) at (digits base k n) r (now (out .exit)) ⌝ }
-{
-    let room = has_room(out.len(), at, k);
-    if room {
-        return lay_digits(out, at, base, k, n);
-    }
-    at
 }
 
 // How many decimal digits n has.
@@ -113,12 +95,50 @@ pub fn put_decimal(out: &mut [u8], at: usize, n: u32) -> usize
     ensures { λ r. ⌜ Placed (now (out .entry)) at (decimal n) r (now (out .exit)) ⌝ }
 {
     let k = places(n);
-    put_digits(out, at, 10, k, n)
+    let room = has_room(out.len(), at, k);
+    if room {
+        return lay_digits(out, at, k, n);
+    }
+    at
 }
 
-// A word in 8 hexadecimal digits, in lower case.
+// A hexadecimal digit's code, in lower case. It is looked up: nothing foresees a test of each digit.
+fn hex_glyph(d: u32) -> u8
+    requires { ⌜ d < 16 ⌝ }
+    ensures { λ r. ⌜ r ≡ glyph d ⌝ }
+{
+    let glyphs = *b"0123456789abcdef";
+    glyphs[d as usize]
+}
+
+// The 8 hexadecimal digits of a word.
+pub fn hex_digits(w: u32) -> [u8; 8]
+    ensures { λ r. ⌜ r ≡ hex8 w ⌝ }
+{
+    // the word without its last digit, its last two, ..
+    let seven = w / 16;
+    let six = seven / 16;
+    let five = six / 16;
+    let four = five / 16;
+    let three = four / 16;
+    let two = three / 16;
+    let one = two / 16;
+    [
+        hex_glyph(one % 16),
+        hex_glyph(two % 16),
+        hex_glyph(three % 16),
+        hex_glyph(four % 16),
+        hex_glyph(five % 16),
+        hex_glyph(six % 16),
+        hex_glyph(seven % 16),
+        hex_glyph(w % 16),
+    ]
+}
+
+// A word in 8 hexadecimal digits.
 pub fn put_hex(out: &mut [u8], at: usize, w: u32) -> usize
     ensures { λ r. ⌜ Placed (now (out .entry)) at (hex8 w) r (now (out .exit)) ⌝ }
 {
-    put_digits(out, at, 16, 8, w)
+    let digits = hex_digits(w);
+    put_text(out, at, &digits)
 }
