@@ -49,11 +49,9 @@ letter kind mark =
     code "!"
 
 -- a line per sample: number, output word in 8 lowercase hex digits, a mark, and 8 hex digits more
-abbrev pub fields : ℕ → ℕ → ℕ → List ℕ
-fields word mark last = bytes " " ++ hex8 word ++ bytes " " ++ (mark ∷ []) ++ bytes " " ++ hex8 last ++ bytes "\n"
-
 unfoldable pub line : ℕ → ℕ → ℕ → ℕ → List ℕ
-line number word mark last = decimal number ++ fields word mark last
+line number word mark last =
+    decimal number ++ bytes " " ++ hex8 word ++ bytes " " ++ (mark ∷ []) ++ bytes " " ++ hex8 last ++ bytes "\n"
 
 -- texts one after the other: f 0, f 1, … below n
 unfoldable pub joined : ℕ → (ℕ → List ℕ) → List ℕ

@@ -6,7 +6,7 @@ ghost use Prim.Native.Nat.{_≤_};
 ghost use lib.ListN.{length};
 ghost use Rattle.text.specs.Text.{bytes};
 ghost use Rattle.text.specs.Put.{Writes};
-ghost use Rattle.listing.specs.Listing.{name, heading, letter, fields, line, joined, lineAt, listingOf, refusedText};
+ghost use Rattle.listing.specs.Listing.{name, heading, letter, line, joined, lineAt, listingOf, refusedText};
 
 fn put_name(out: &mut [u8], at: usize, kind: Kind) -> usize
     ensures { λ r. ⌜ Writes (now (out .entry)) at (bytes (name kind)) r (now (out .exit)) ⌝ }
@@ -49,44 +49,18 @@ fn letter(kind: Kind, mark: u8) -> u8
     b'!'
 }
 
-// What stands in a line after the number. It is put as one piece, so that the room is tested once.
-fn fields(word: u32, mark: u8, last: u32) -> [u8; 21]
-    ensures { λ r. ⌜ r ≡ fields word mark last ⌝ }
-{
-    let w = text::hex_digits(word);
-    let l = text::hex_digits(last);
-    [
-        b' ',
-        w[0],
-        w[1],
-        w[2],
-        w[3],
-        w[4],
-        w[5],
-        w[6],
-        w[7],
-        b' ',
-        mark,
-        b' ',
-        l[0],
-        l[1],
-        l[2],
-        l[3],
-        l[4],
-        l[5],
-        l[6],
-        l[7],
-        b'\n',
-    ]
-}
-
 // The line of one sample.
 fn put_line(out: &mut [u8], at: usize, number: u32, word: u32, mark: u8, last: u32) -> usize
     ensures { λ r. ⌜ Writes (now (out .entry)) at (line number word mark last) r (now (out .exit)) ⌝ }
 {
     let at = text::put_decimal(out, at, number);
-    let rest = fields(word, mark, last);
-    text::put_text(out, at, &rest)
+    let at = text::put_byte(out, at, b' ');
+    let at = text::put_hex(out, at, word);
+    let at = text::put_byte(out, at, b' ');
+    let at = text::put_byte(out, at, mark);
+    let at = text::put_byte(out, at, b' ');
+    let at = text::put_hex(out, at, last);
+    text::put_byte(out, at, b'\n')
 }
 
 // A line for each sample.

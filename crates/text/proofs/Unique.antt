@@ -13,7 +13,6 @@ use Rattle.text.specs.Put.{laid, fits}
 use Rattle.text.proofs.put_byte.Reads as put-byte
 use Rattle.text.proofs.put_text.Reads as put-text
 use Rattle.text.proofs.put_decimal.Reads as put-decimal
-use Rattle.text.proofs.hex_digits.Reads as hex-digits
 use Rattle.text.proofs.put_hex.Reads as put-hex
 
 -- the answer, and the buffer as the call leaves it
@@ -34,6 +33,3 @@ put-decimal-unique κs = fixes (λ a z e p. cc)
 
 pub put-hex-unique : (κs : Lfts 1) → Fixes {O = Seen} (put-hex.Learnt κs) (λ z e. (z, now (e .0))) (λ a. put (now (a .0)) (a .1 .0) (hex8 (a .1 .1 .0)))
 put-hex-unique κs = fixes (λ a z e p. cc)
-
-pub hex-digits-unique : Fixes (hex-digits.Learnt tt) (λ z e. z) (λ a. hex8 (a .0))
-hex-digits-unique = fixes (λ a z e p. p)

@@ -102,43 +102,30 @@ pub fn put_decimal(out: &mut [u8], at: usize, n: u32) -> usize
     at
 }
 
-// A hexadecimal digit's code, in lower case. It is looked up: nothing foresees a test of each digit.
-fn hex_glyph(d: u32) -> u8
-    requires { ⌜ d < 16 ⌝ }
-    ensures { λ r. ⌜ r ≡ glyph d ⌝ }
+// The loop of put_hex, from the last digit to the first. A digit's code is looked up: nothing foresees a test of each digit.
+fn lay_hex(out: &mut [u8], at: usize, w: u32) -> usize
+    requires { ⌜ at + 8 ≤ length (now out) ⌝ }
+    ensures { λ r. ⌜ Wrote (now (out .entry)) at (hex8 w) r (now (out .exit)) ⌝ }
 {
     let glyphs = *b"0123456789abcdef";
-    glyphs[d as usize]
+    let mut i = 8usize;
+    let mut rest = w;
+    while i > 0 {
+        i -= 1;
+        let digit = (rest % 16) as usize;
+        out[at + i] = glyphs[digit];
+        rest /= 16;
+    }
+    at + 8
 }
 
-// The 8 hexadecimal digits of a word.
-pub fn hex_digits(w: u32) -> [u8; 8]
-    ensures { λ r. ⌜ r ≡ hex8 w ⌝ }
-{
-    // the word without its last digit, its last two, ..
-    let seven = w / 16;
-    let six = seven / 16;
-    let five = six / 16;
-    let four = five / 16;
-    let three = four / 16;
-    let two = three / 16;
-    let one = two / 16;
-    [
-        hex_glyph(one % 16),
-        hex_glyph(two % 16),
-        hex_glyph(three % 16),
-        hex_glyph(four % 16),
-        hex_glyph(five % 16),
-        hex_glyph(six % 16),
-        hex_glyph(seven % 16),
-        hex_glyph(w % 16),
-    ]
-}
-
-// A word in 8 hexadecimal digits.
+// A word in 8 hexadecimal digits, in lower case.
 pub fn put_hex(out: &mut [u8], at: usize, w: u32) -> usize
     ensures { λ r. ⌜ Placed (now (out .entry)) at (hex8 w) r (now (out .exit)) ⌝ }
 {
-    let digits = hex_digits(w);
-    put_text(out, at, &digits)
+    let room = has_room(out.len(), at, 8);
+    if room {
+        return lay_hex(out, at, w);
+    }
+    at
 }
