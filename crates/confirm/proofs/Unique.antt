@@ -11,14 +11,13 @@ use Rattle.trace.specs.Answers.{after}
 use Rattle.trace.specs.declared.RunAnswer.{RunAnswer}
 use Rattle.confirm.specs.Answers.{numberOf, wordOf, markOf}
 use Rattle.confirm.specs.Confirm
-use Rattle.confirm.specs.Confirm.{fresh, madeOf, badState, stepOf}
+use Rattle.confirm.specs.Confirm.{fresh, madeOf, stepOf}
 use Rattle.confirm.specs.Run.{steps, shownWord, shownMark, shownCount, answerOf}
 use Rattle.confirm.proofs.ConfirmAnswer.number.Reads as number
 use Rattle.confirm.proofs.ConfirmAnswer.word.Reads as word
 use Rattle.confirm.proofs.ConfirmAnswer.mark.Reads as mark
 use Rattle.confirm.proofs.Confirm.from_word.Reads as from-word
 use Rattle.confirm.proofs.Confirm.new.Reads as new
-use Rattle.confirm.proofs.Confirm.bad_state.Reads as bad-state
 use Rattle.confirm.proofs.Confirm.clauses.Reads as clauses
 use Rattle.confirm.proofs.Confirm.step.Reads as step
 use Rattle.confirm.proofs.run.Reads as run
@@ -37,9 +36,6 @@ from-word-unique = fixes (λ a z e p. p)
 
 pub new-unique : Fixes (new.Learnt tt) (λ z e. z) (λ a. madeOf (a .0) (a .1 .0) (defaultWord (a .0)))
 new-unique = fixes (λ a z e p. p)
-
-pub bad-state-unique : Fixes (bad-state.Learnt tt) (λ z e. z) (λ a. badState (a .0))
-bad-state-unique = fixes (λ a z e p. p)
 
 pub clauses-unique : Fixes (clauses.Learnt tt) (λ z e. z) (λ a. Confirm.clauses (a .0) (a .1 .0))
 clauses-unique = fixes (λ a z e p. p)

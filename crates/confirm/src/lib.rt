@@ -5,7 +5,7 @@ ghost use mathlib.Core.List.{map};
 ghost use lib.ListN.{length};
 ghost use Rattle.rules.specs.Limits.{defaultWord};
 ghost use Rattle.confirm.specs.Answers.{numberOf, wordOf, markOf};
-ghost use Rattle.confirm.specs.Confirm.{fresh, held, confirmed, clauses, madeOf, badState, stepOf};
+ghost use Rattle.confirm.specs.Confirm.{fresh, held, confirmed, clauses, madeOf, stepOf};
 ghost use Rattle.confirm.specs.Run.{steps, shownWord, shownMark, shownCount, Ran};
 
 // The state of a confirmation, with its width n and its count N (`need`).
@@ -151,29 +151,17 @@ impl Confirm {
         self.confirmed(input)
     }
 
-    // 7: the count is above N-1, or a stored word is outside the width.
-    pub fn bad_state(self) -> bool
-        ensures { λ r. ⌜ r ≡ badState self ⌝ }
-    {
-        // The two words first, so that they are tested as one.
-        let outlying = rules::outside(self.n, self.input) | rules::outside(self.n, self.output);
-        (self.count > rules::last(self.need)) | outlying
-    }
-
     // One step. A refused one returns the state it got.
     pub fn step(self, input: u32) -> ConfirmStep
         ensures { λ r. ⌜ r ≡ stepOf self input ⌝ }
     {
-        let refusal = rules::step_refusal(
-            rules::bad_count(self.need),
-            self.n,
-            rules::outside(self.n, input),
-            self.bad_state(),
-        );
-        if refusal != 0 {
+        let words = input | (self.input | self.output);
+        let refused = !rules::admits(self.n, self.need, self.count, words);
+        if refused {
+            let number = rules::step_number(self.n, self.need, input);
             return ConfirmStep {
                 state: self,
-                answer: ConfirmAnswer::Refused(refusal),
+                answer: ConfirmAnswer::Refused(number),
             };
         }
         self.clauses(input)

@@ -6,17 +6,15 @@ use denote.Ref.{now}
 use contract.Lifetimes.{Lfts}
 use Rattle.rules.specs.Limits.{defaultWord}
 use Rattle.rules.specs.Promise.{Fixes}
-use Rattle.rules.specs.Table.{first}
 use Rattle.rules.proofs.Promise.{fixes}
 use Rattle.trace.specs.Answers.{after}
 use Rattle.trace.specs.declared.RunAnswer.{RunAnswer}
 use Rattle.reserve.specs.Reserve
-use Rattle.reserve.specs.Reserve.{fresh, madeOf, rowsOf, stepOf}
+use Rattle.reserve.specs.Reserve.{fresh, madeOf, stepOf}
 use Rattle.reserve.specs.Run.{steps, shownWord, shownMark, samplesOf, answerOf}
 use Rattle.reserve.proofs.Reserve.from_word.Reads as from-word
 use Rattle.reserve.proofs.Reserve.new.Reads as new
 use Rattle.reserve.proofs.Reserve.clauses.Reads as clauses
-use Rattle.reserve.proofs.Reserve.refusal.Reads as refusal
 use Rattle.reserve.proofs.Reserve.step.Reads as step
 use Rattle.reserve.proofs.run.Reads as run
 
@@ -28,9 +26,6 @@ new-unique = fixes (λ a z e p. p)
 
 pub clauses-unique : Fixes (clauses.Learnt tt) (λ z e. z) (λ a. Reserve.clauses (a .0) (a .1 .0) (a .1 .1 .0) (a .1 .1 .1 .0) (a .1 .1 .1 .1 .0))
 clauses-unique = fixes (λ a z e p. p)
-
-pub refusal-unique : Fixes (refusal.Learnt tt) (λ z e. z) (λ a. first (rowsOf (a .0) (a .1 .0) (a .1 .1 .0) (a .1 .1 .1 .0) (a .1 .1 .1 .1 .0)))
-refusal-unique = fixes (λ a z e p. p)
 
 pub step-unique : Fixes (step.Learnt tt) (λ z e. z) (λ a. stepOf (a .0) (a .1 .0) (a .1 .1 .0) (a .1 .1 .1 .0) (a .1 .1 .1 .1 .0))
 step-unique = fixes (λ a z e p. p)

@@ -8,10 +8,9 @@ ghost use mathlib.Core.List.{_++_, map, zip};
 ghost use Prim.Native.Nat.{_<_};
 ghost use lib.ListN.{length, take, drop};
 ghost use Rattle.rules.specs.Limits.{defaultWord};
-ghost use Rattle.rules.specs.Table.{first};
 ghost use Rattle.vote.specs.Run as voted;
 ghost use Rattle.reserve.specs.Parts.{tookOver};
-ghost use Rattle.reserve.specs.Reserve.{phaseAfter, first-pair, second-pair, clauses, madeOf, rowsOf, stepOf};
+ghost use Rattle.reserve.specs.Reserve.{phaseAfter, first-pair, second-pair, clauses, madeOf, stepOf};
 ghost use Rattle.reserve.specs.Run.{steps, shownWord, shownMark, samplesOf, Ran};
 
 // Which pair is in force: units 1 and 2; units 3 and 4 with a reset, for one step; units 3 and 4 for ever.
@@ -117,30 +116,18 @@ impl Reserve {
         }
     }
 
-    // The number of the refusal of a step, 0 for none. The words of all four units are inside the width, or it is refused.
-    pub fn refusal(self, a: u32, b: u32, c: u32, d: u32) -> u32
-        ensures { λ r. ⌜ r ≡ first (rowsOf self a b c d) ⌝ }
-    {
-        let vote = self.vote;
-        let outside_first = rules::outside(vote.n, a) | rules::outside(vote.n, b);
-        let outside_second = rules::outside(vote.n, c) | rules::outside(vote.n, d);
-        rules::step_refusal(
-            rules::bad_count(vote.need),
-            vote.n,
-            outside_first | outside_second,
-            vote.bad_state(),
-        )
-    }
-
-    // One step. A refused one returns the state it got.
+    // One step. A refused one returns the state it got. The words of all four units are inside the width, or it is refused.
     pub fn step(self, a: u32, b: u32, c: u32, d: u32) -> ReserveStep
         ensures { λ r. ⌜ r ≡ stepOf self a b c d ⌝ }
     {
-        let refusal = self.refusal(a, b, c, d);
-        if refusal != 0 {
+        let vote = self.vote;
+        let sample = (a | b) | (c | d);
+        let refused = !rules::admits(vote.n, vote.need, vote.count, sample | vote.word);
+        if refused {
+            let number = rules::step_number(vote.n, vote.need, sample);
             return ReserveStep {
                 state: self,
-                answer: VoteAnswer::Refused(refusal),
+                answer: VoteAnswer::Refused(number),
                 pair: 0,
             };
         }

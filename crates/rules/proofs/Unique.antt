@@ -1,8 +1,10 @@
 -- Each public call's own contract, as the source states it, is its definition applied to the inputs, and so determines the answer.
 use Prim.Native.Nat.{_-_}
+use mathlib.Core.Bool.{true}
 use Rattle.rules.specs.Limits
 use Rattle.rules.specs.Limits.{badCount, badWidth, defaultWord}
 use Rattle.rules.specs.Table.{first, orElse}
+use Rattle.rules.specs.Refusals
 use Rattle.rules.specs.Refusals.{makeRows, stepRows}
 use Rattle.rules.specs.Promise.{Fixes}
 use Rattle.rules.proofs.Promise.{fixes}
@@ -13,7 +15,8 @@ use Rattle.rules.proofs.default_word.Reads as default-word
 use Rattle.rules.proofs.last.Reads as last
 use Rattle.rules.proofs.or_else.Reads as or-else
 use Rattle.rules.proofs.make_refusal.Reads as make-refusal
-use Rattle.rules.proofs.step_refusal.Reads as step-refusal
+use Rattle.rules.proofs.admits.Reads as admits
+use Rattle.rules.proofs.step_number.Reads as step-number
 
 pub bad-count-unique : Fixes (bad-count.Learnt tt) (λ z e. z) (λ a. badCount (a .0))
 bad-count-unique = fixes (λ a z e p. p)
@@ -36,5 +39,8 @@ or-else-unique = fixes (λ a z e p. p)
 pub make-refusal-unique : Fixes (make-refusal.Learnt tt) (λ z e. z) (λ a. first (makeRows (a .0) (a .1 .0) (a .1 .1 .0)))
 make-refusal-unique = fixes (λ a z e p. p)
 
-pub step-refusal-unique : Fixes (step-refusal.Learnt tt) (λ z e. z) (λ a. first (stepRows (a .0) (a .1 .0) (a .1 .1 .0) (a .1 .1 .1 .0)))
-step-refusal-unique = fixes (λ a z e p. p)
+pub admits-unique : Fixes (admits.Learnt tt) (λ z e. z) (λ a. Refusals.admits (a .0) (a .1 .0) (a .1 .1 .0) (a .1 .1 .1 .0))
+admits-unique = fixes (λ a z e p. p)
+
+pub step-number-unique : Fixes (step-number.Learnt tt) (λ z e. z) (λ a. first (stepRows (badCount (a .1 .0)) (a .0) (Limits.outside (a .0) (a .1 .1 .0)) true))
+step-number-unique = fixes (λ a z e p. p)

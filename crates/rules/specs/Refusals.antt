@@ -1,9 +1,10 @@
 -- Document 01's refusal numbers 1 to 7, as the three kinds of call of every voter have them. A voter hands in the tests
 -- that are its own; `miscounted` is row 1's, made of its count N, or of each of its counts.
-use Prim.Native.Nat.{ℕ}
+use Prim.Native.Nat.{ℕ, _-_}
 use mathlib.Core.List.{List, [], _∷_}
-use mathlib.Core.Bool.{Bool}
-use Rattle.rules.specs.Limits.{badWidth, outside}
+use mathlib.Core.Bool.{Bool, not, _||_}
+use lib.Dec.{ltb}
+use Rattle.rules.specs.Limits.{badCount, badWidth, outside}
 use Rattle.rules.specs.Table.{Row, _when_}
 
 -- a constructor, from a width and an initial word
@@ -22,6 +23,10 @@ stepRows miscounted n outlying damaged =
     6 when outlying ∷
     7 when damaged ∷
     []
+
+-- a step whose state has one count, tested at once: `words` are those of its sample and its state in one, by OR
+abbrev pub admits : ℕ → ℕ → ℕ → ℕ → Bool
+admits n need count words = not (badCount need || badWidth n || outside n words || ltb (need - 1) count)
 
 -- a run: a trace is too long; the lent slices differ in length; some sample is outside the width
 abbrev pub runRows : Bool → ℕ → ℕ → Bool → Bool → Bool → List Row

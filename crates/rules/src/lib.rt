@@ -1,9 +1,10 @@
 // Limits, words and refusals: what every other room tests and answers by.
 ghost use mathlib.Core.Path.{_≡_};
+ghost use mathlib.Core.Bool.{true};
 ghost use Prim.Native.Nat.{_-_};
 ghost use Rattle.rules.specs.Limits.{badCount, badWidth, outside, defaultWord};
 ghost use Rattle.rules.specs.Table.{first, orElse};
-ghost use Rattle.rules.specs.Refusals.{makeRows, stepRows};
+ghost use Rattle.rules.specs.Refusals.{makeRows, stepRows, admits};
 
 // The limits: of a count N, of a width n, and of a trace's samples.
 pub struct Limits {}
@@ -74,18 +75,30 @@ pub fn make_refusal(miscounted: bool, n: u32, word: u32) -> u32
     or_else(r, 5, outside(n, word))
 }
 
-// The table of every step: a bad count, the width, a sample outside it, a state that no step takes.
-pub fn step_refusal(miscounted: bool, n: u32, outlying: bool, damaged: bool) -> u32
-    ensures { λ r. ⌜ r ≡ first (stepRows miscounted n outlying damaged) ⌝ }
+// Whether a step is taken, by one test: the count is below N, and the words of its sample and its state, in one, are inside.
+pub fn admits(n: u32, need: u32, count: u32, words: u32) -> bool
+    ensures { λ r. ⌜ r ≡ admits n need count words ⌝ }
 {
-    let misfit = bad_width(n);
-    let refused = miscounted | misfit | outlying | damaged;
-    // Most steps are taken: they need one test.
-    if refused {
-        let r = or_else(0, 1, miscounted);
-        let r = or_else(r, 2, misfit);
-        let r = or_else(r, 6, outlying);
-        return or_else(r, 7, damaged);
+    if bad_width(n) {
+        return false;
     }
-    0
+    // In 64 bits, so that a shift by 32 is one like any other.
+    let above = words as u64 >> n;
+    (count < need) & (need <= Limits::COUNT) & (above == 0)
+}
+
+// The table of a step that is not taken, its sample's words in one: what no row before refuses is the state's.
+pub fn step_number(n: u32, need: u32, sample: u32) -> u32
+    ensures { λ r. ⌜ r ≡ first (stepRows (badCount need) n (outside n sample) true) ⌝ }
+{
+    if bad_count(need) {
+        return 1;
+    }
+    if bad_width(n) {
+        return 2;
+    }
+    if outside(n, sample) {
+        return 6;
+    }
+    7
 }

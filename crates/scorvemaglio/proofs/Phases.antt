@@ -1,42 +1,66 @@
 -- A reserve state from C: the number of a step is the table's, with a phase that is none of the three as one more reason for 7.
 use Prim.Native.Nat.{ℕ}
-use mathlib.Core.Path.{_≡_, refl, ap, _∙_}
-use mathlib.Core.List.{List, [], _∷_}
+use mathlib.Core.Path.{_≡_, refl, sym, _∙_}
+use mathlib.Core.List.{List}
 use mathlib.Core.Logic.{_↔_}
-use mathlib.Core.Bool.{Bool, true, false, _||_}
-use Rattle.rules.specs.Limits.{badCount, badWidth, outside}
-use Rattle.rules.specs.Table.{Row, _when_, first, Given, orElse, numbered}
+use mathlib.Core.Bool.{Bool, true, false, not, _&&_, _||_}
+use lib.Dec.{eqb}
+use borrow.Author.Tests.{eqb-true, eqb-false, not-false}
+use Rattle.rules.specs.Limits.{badCount, outside}
+use Rattle.rules.specs.Table.{Row, first, Given, numbered}
 use Rattle.rules.specs.Refusals.{stepRows}
-use Rattle.rules.proofs.Tables.{exactly}
+use Rattle.rules.proofs.Tables.{or-neither, exactly}
+use Rattle.rules.proofs.Steps.{one-reason-more, one-test-more, refused-number}
 use Rattle.vote.specs.Vote.{badState}
-use Rattle.reserve.specs.Reserve.{stepOf}
+use Rattle.vote.specs.declared.Vote.{Vote}
+use Rattle.reserve.specs.Reserve.{clauses, rowsOf, stepOf}
+use Rattle.reserve.specs.declared.Reserve.{Reserve}
 use Rattle.reserve.proofs.Exactly.{step-number}
+use Rattle.reserve.proofs.Steps.{union, union-outside, admitted, one-test, ways}
 use Rattle.scorvemaglio.specs.States.{reserveOf, noPhase}
 use Rattle.scorvemaglio.specs.Voters.{reserveNumber}
 
--- the rows of a step, by their tests
-abbrev fourRows : Bool → Bool → Bool → Bool → List Row
-fourRows m w o d = 1 when m ∷ 2 when w ∷ 6 when o ∷ 7 when d ∷ []
+-- refused is what has no phase or is not admitted
+either : (p q : Bool) → not (p || not q) ≡ q && not p
+either true true = refl
+either true false = refl
+either false true = refl
+either false false = refl
 
--- one more reason for row 7
-one-reason-more : (m w o d p : Bool) → orElse (first (fourRows m w o d)) 7 p ≡ first (fourRows m w o (d || p))
-unfolding first
-one-reason-more true w o d p = refl
-one-reason-more false true o d p = refl
-one-reason-more false false true d p = refl
-one-reason-more false false false true p = refl
-one-reason-more false false false false true = refl
-one-reason-more false false false false false = refl
+module _ (state : List ℕ) (a b c d : ℕ) where
+  abbrev s : Reserve
+  s = reserveOf state
 
--- the words of the four units, and the vote's state, as document 01 has it
-abbrev rows : List ℕ → ℕ → ℕ → ℕ → ℕ → List Row
-rows state a b c d =
-    let v = reserveOf state .vote in
-    stepRows (badCount (v .need)) (v .n) (outside (v .n) a || outside (v .n) b || (outside (v .n) c || outside (v .n) d)) (badState v || noPhase state)
+  abbrev outlying : Bool
+  outlying = let n = s .vote .n in outside n a || outside n b || (outside n c || outside n d)
 
-pub reserve-step-exactly : (state : List ℕ) (a b c d k : ℕ) → (reserveNumber state (stepOf (reserveOf state) a b c d) ≡ k) ↔ Given k (rows state a b c d)
-unfolding numbered
-reserve-step-exactly state a b c d k =
-    let s = reserveOf state in
-    rw (step-number s a b c d, one-reason-more (badCount (s .vote .need)) (badWidth (s .vote .n)) (outside (s .vote .n) a || outside (s .vote .n) b || (outside (s .vote .n) c || outside (s .vote .n) d)) (badState (s .vote)) (noPhase state))
-    (exactly (rows state a b c d) refl k)
+  -- the words of the four units, and the vote's state, as document 01 has it
+  abbrev rows : List Row
+  rows = stepRows (badCount (s .vote .need)) (s .vote .n) outlying (badState (s .vote) || noPhase state)
+
+  number : reserveNumber state (stepOf s a b c d) ≡ first rows
+  number = rw (step-number s a b c d) (one-reason-more (badCount (s .vote .need)) (s .vote .n) outlying (badState (s .vote)) (noPhase state))
+
+  pub reserve-step-exactly : (k : ℕ) → (reserveNumber state (stepOf s a b c d) ≡ k) ↔ Given k rows
+  unfolding numbered
+  reserve-step-exactly k = rw number (exactly rows refl k)
+
+  abbrev pub refused : Bool
+  refused = noPhase state || not (admitted s a b c d)
+
+  tested : not refused ≡ eqb (first rows) 0
+  tested =
+      either (noPhase state) (admitted s a b c d)
+      ∙ rw (one-test s a b c d) (one-test-more (badCount (s .vote .need)) (s .vote .n) outlying (badState (s .vote)) (noPhase state))
+
+  pub refused-as :
+      refused ≡ true
+      → let r = first (stepRows (badCount (s .vote .need)) (s .vote .n) (outside (s .vote .n) (union a b c d)) true) in
+      (r ≡ reserveNumber state (stepOf s a b c d)) × (r ≡ 0 → ⊥)
+  refused-as e =
+      let some : eqb (first rows) 0 ≡ false = rw (← tested, e) in
+      let same = refused-number (badCount (s .vote .need)) (s .vote .n) outlying (badState (s .vote) || noPhase state) some in
+      rw (union-outside (s .vote .n) a b c d, ← same) (sym number, eqb-false _ _ some)
+
+  pub taken-as : refused ≡ false → (reserveNumber state (stepOf s a b c d) ≡ 0) × (clauses s a b c d ≡ stepOf s a b c d)
+  taken-as e = (number ∙ eqb-true _ _ (rw (← tested, e)), ways s a b c d .0 (not-false _ (or-neither (noPhase state) (not (admitted s a b c d)) e .1)))

@@ -113,12 +113,14 @@ pub extern "C" fn scorve_reserve_step(
         r (now (state .exit)) (now (answer .exit)) ⌝ }
 {
     let s = reserve_of(*state);
-    let no_phase = state[0] > 2;
-    let refusal = rules::or_else(s.refusal(a, b, c, d), 7, no_phase);
-    if refusal != 0 {
-        return refusal;
+    let vote = s.vote;
+    let sample = (a | b) | (c | d);
+    let admitted = rules::admits(vote.n, vote.need, vote.count, sample | vote.word);
+    let refused = (state[0] > 2) | !admitted;
+    if refused {
+        return rules::step_number(vote.n, vote.need, sample);
     }
-    // The refusal is known, so the clauses answer as the step does.
+    // Nothing is refused, so the clauses answer as the step does.
     put_step(state, answer, s.clauses(a, b, c, d));
     0
 }

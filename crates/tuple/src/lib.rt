@@ -7,10 +7,11 @@ use confirm::ConfirmAnswer;
 use trace::RunAnswer;
 ghost use mathlib.Core.Path.{_≡_};
 ghost use Prim.Native.Nat.{_≤_};
+ghost use lib.Dec.{eqb};
 ghost use Rattle.rules.specs.Limits.{defaultWord};
 ghost use Rattle.rules.specs.Table.{first};
 ghost use Rattle.tuple.specs.Answers.{numberOf, wordOf, maskOf, markOf};
-ghost use Rattle.tuple.specs.Tuple.{width, fresh, votersOf, confirmedAs, decided, madeOf, badState, earlyRows, notTaken, stepOf};
+ghost use Rattle.tuple.specs.Tuple.{width, fresh, votersOf, confirmedAs, decided, madeOf, earlyRows, notTaken, stepOf};
 ghost use Rattle.tuple.specs.Parts.{Decides};
 ghost use Rattle.tuple.specs.Run.{Ran};
 
@@ -220,16 +221,6 @@ impl Tuple {
         }
     }
 
-    // 7: a place, an agreed bit at n or above, or the confirmation's state.
-    fn bad_state(self) -> bool
-        ensures { λ r. ⌜ r ≡ badState self ⌝ }
-    {
-        let confirm = self.confirm;
-        let counts = self.counts;
-        let places = signals::bad_places(confirm.n as usize, confirm.need, counts);
-        places | rules::outside(confirm.n, self.agreed) | confirm.bad_state()
-    }
-
     fn refused(self, number: u32) -> TupleStep
         ensures { λ r. ⌜ r ≡ notTaken self number ⌝ }
     {
@@ -239,30 +230,27 @@ impl Tuple {
         }
     }
 
-    // 1, 2, 6 or 7, or 0: what is known before the voters step.
-    fn early(self, a: u32, b: u32) -> u32
-        ensures { λ r. ⌜ r ≡ first (earlyRows self a b) ⌝ }
+    // Whether the voters may step: nothing is refused that is known before.
+    fn admits(self, a: u32, b: u32) -> bool
+        ensures { λ r. ⌜ r ≡ eqb (first (earlyRows self a b)) 0 ⌝ }
     {
         let confirm = self.confirm;
-        let outlying = rules::outside(confirm.n, a) | rules::outside(confirm.n, b);
-        rules::step_refusal(
-            rules::bad_count(confirm.need),
-            confirm.n,
-            outlying,
-            self.bad_state(),
-        )
+        let counts = self.counts;
+        let stored = self.agreed | (confirm.input | confirm.output);
+        let inside = rules::admits(confirm.n, confirm.need, confirm.count, (a | b) | stored);
+        inside & !signals::bad_places(confirm.n as usize, confirm.need, counts)
     }
 
     // One step. A refused one returns the state it got.
     pub fn step(self, a: u32, b: u32) -> TupleStep
         ensures { λ r. ⌜ r ≡ stepOf self a b ⌝ }
     {
-        let refusal = self.early(a, b);
-        if refusal != 0 {
-            return self.refused(refusal);
+        let confirm = self.confirm;
+        let refused = !self.admits(a, b);
+        if refused {
+            return self.refused(rules::step_number(confirm.n, confirm.need, a | b));
         }
         let v = self.voters(a, b);
-        let confirm = self.confirm;
         // The table has 8, so it is tested; `eight-never` shows that it is not given.
         let outlying = rules::outside(confirm.n, v.word);
         if outlying {

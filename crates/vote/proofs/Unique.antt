@@ -16,14 +16,13 @@ use Rattle.vote.specs.declared.VotePart.{VotePart}
 use Rattle.vote.specs.Answers.{numberOf, wordOf, markOf}
 use Rattle.vote.specs.Parts.{partOf}
 use Rattle.vote.specs.Vote
-use Rattle.vote.specs.Vote.{fresh, madeOf, badState, stepOf}
+use Rattle.vote.specs.Vote.{fresh, madeOf, stepOf}
 use Rattle.vote.specs.Run.{steps, shownWord, shownMark, answerOf}
 use Rattle.vote.proofs.VoteAnswer.number.Reads as number
 use Rattle.vote.proofs.VoteAnswer.word.Reads as word
 use Rattle.vote.proofs.VoteAnswer.mark.Reads as mark
 use Rattle.vote.proofs.Vote.from_word.Reads as from-word
 use Rattle.vote.proofs.Vote.new.Reads as new
-use Rattle.vote.proofs.Vote.bad_state.Reads as bad-state
 use Rattle.vote.proofs.Vote.clauses.Reads as clauses
 use Rattle.vote.proofs.Vote.step.Reads as step
 use Rattle.vote.proofs.run.Reads as run
@@ -43,9 +42,6 @@ from-word-unique = fixes (λ a z e p. p)
 
 pub new-unique : Fixes (new.Learnt tt) (λ z e. z) (λ a. madeOf (a .0) (a .1 .0) (defaultWord (a .0)))
 new-unique = fixes (λ a z e p. p)
-
-pub bad-state-unique : Fixes (bad-state.Learnt tt) (λ z e. z) (λ a. badState (a .0))
-bad-state-unique = fixes (λ a z e p. p)
 
 pub clauses-unique : Fixes (clauses.Learnt tt) (λ z e. z) (λ a. Vote.clauses (a .0) (a .1 .0) (a .1 .1 .0) (a .1 .1 .1 .0))
 clauses-unique = fixes (λ a z e p. p)

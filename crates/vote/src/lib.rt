@@ -5,7 +5,7 @@ use trace::RunAnswer;
 ghost use mathlib.Core.Path.{_≡_};
 ghost use Rattle.rules.specs.Limits.{defaultWord};
 ghost use Rattle.vote.specs.Answers.{numberOf, wordOf, markOf};
-ghost use Rattle.vote.specs.Vote.{fresh, agreed, held, clauses, madeOf, badState, stepOf};
+ghost use Rattle.vote.specs.Vote.{fresh, agreed, held, clauses, madeOf, stepOf};
 ghost use Rattle.vote.specs.Run.{Ran};
 
 // The state of a vote, with its width n and its count N (`need`).
@@ -164,29 +164,17 @@ impl Vote {
         }
     }
 
-    // 7: the count is above N-1, or the stored word is outside the width.
-    pub fn bad_state(self) -> bool
-        ensures { λ r. ⌜ r ≡ badState self ⌝ }
-    {
-        let outlying = rules::outside(self.n, self.word);
-        (self.count > rules::last(self.need)) | outlying
-    }
-
     // One step. A refused one returns the state it got.
     pub fn step(self, a: u32, b: u32, reset: bool) -> VoteStep
         ensures { λ r. ⌜ r ≡ stepOf self a b reset ⌝ }
     {
-        let outlying = rules::outside(self.n, a) | rules::outside(self.n, b);
-        let refusal = rules::step_refusal(
-            rules::bad_count(self.need),
-            self.n,
-            outlying,
-            self.bad_state(),
-        );
-        if refusal != 0 {
+        let sample = a | b;
+        let refused = !rules::admits(self.n, self.need, self.count, sample | self.word);
+        if refused {
+            let number = rules::step_number(self.n, self.need, sample);
             return VoteStep {
                 state: self,
-                answer: VoteAnswer::Refused(refusal),
+                answer: VoteAnswer::Refused(number),
             };
         }
         self.clauses(a, b, reset)

@@ -1,22 +1,47 @@
--- `Confirm::step` meets its contract: with a refusal the state as it came, without one the clauses.
-use mathlib.Core.Path.{_≡_, _∙_}
+-- `Confirm::step` meets its contract: where the one test finds nothing wrong the clauses, else the state as it came.
+use mathlib.Core.Path.{_≡_, sym, _∙_}
+use mathlib.Core.Bool.{Bool, true, false, or-assoc}
+use borrow.Author.Tests.{not-false, not-true}
+use Prim.Native.Nat.{ℕ, _-_}
+use lib.Bits.{bitOr}
+use lib.Dec.{ltb, eqb}
+use Rattle.rules.specs.Limits.{badCount, outside}
 use Rattle.rules.specs.Table.{first}
-use Rattle.rules.proofs.Tables.{refuses, works}
-use Rattle.confirm.specs.Confirm.{rowsOf, notTaken, stepOf}
+use Rattle.rules.specs.Refusals.{stepRows, admits}
+use Rattle.rules.proofs.Steps.{admits-exactly, by-one-test}
+use Rattle.rules.proofs.Width.{outside-or}
+use Rattle.confirm.specs.declared.Confirm.{Confirm}
+use Rattle.confirm.specs.Confirm.{clauses, rowsOf, badState, notTaken, stepOf}
 use Rattle.confirm.proofs.Confirm.step.Statement.{statement}
 use Rattle.confirm.proofs.Confirm.step.Tie as tie
 
-found : (c : tie.After-step-refusal) → let a = c .before .before .before .before .args in
-    c .step-refusal .result ≡ first (rowsOf (a .self) (a .input))
-found c = rw (c .step-refusal .ensures, c .before .bad-state .ensures, c .before .before .outside .ensures, c .before .before .before .bad-count .ensures)
+module _ (s : Confirm) (x : ℕ) where
+  abbrev admitted : Bool
+  admitted = admits (s .n) (s .need) (s .count) (bitOr x (bitOr (s .input) (s .output)))
+
+  -- the one test is the table's
+  one-test : admitted ≡ eqb (first (rowsOf s x)) 0
+  one-test =
+      rw (or-assoc (ltb (s .need - 1) (s .count)) (outside (s .n) (s .input)) (outside (s .n) (s .output)), ← outside-or (s .n) (s .input) (s .output))
+      (admits-exactly (s .n) (s .need) (s .count) x (bitOr (s .input) (s .output)))
+
+  ways :
+      (admitted ≡ true → clauses s x ≡ stepOf s x)
+      × (admitted ≡ false → notTaken s (first (stepRows (badCount (s .need)) (s .n) (outside (s .n) x) true)) ≡ stepOf s x)
+  unfolding stepOf
+  ways = by-one-test (badCount (s .need)) (s .n) (outside (s .n) x) (badState s) (notTaken s) (clauses s x) one-test
 
 returns : tie.Need-returns
-unfolding stepOf
-returns c = refuses (notTaken _) _ (found (c .before)) (c .if1 .taken)
+returns c =
+    let tested = c .before .before in
+    let a = tested .before .before .args in
+    rw (c .step-number .ensures) (ways (a .self) (a .input) .1 (sym (tested .admits .ensures) ∙ not-true _ (c .before .if1 .taken)))
 
 returns-2 : tie.Need-returns-2
-unfolding stepOf
-returns-2 c = c .clauses .ensures ∙ works (notTaken _) _ (found (c .before .before)) (c .before .if1 .left)
+returns-2 c =
+    let tested = c .before .before in
+    let a = tested .before .before .args in
+    c .clauses .ensures ∙ ways (a .self) (a .input) .0 (sym (tested .admits .ensures) ∙ not-false _ (c .before .if1 .left))
 
 pub step-spec : {M : Type 1} → statement M
-step-spec = tie.close (tie.spec (λ _ _. tt) (λ _ _. tt) (λ _ _. tt) (λ _ _. tt) returns (λ _ _. tt) returns-2)
+step-spec = tie.close (tie.spec (λ _ _. tt) (λ _ _. tt) returns (λ _ _. tt) returns-2)

@@ -1,17 +1,21 @@
--- `Reserve::step` meets its contract: with a refusal the state as it came, without one the clauses.
-use mathlib.Core.Path.{_∙_}
-use Rattle.rules.proofs.Tables.{refuses, works}
-use Rattle.reserve.specs.Reserve.{notTaken, stepOf}
+-- `Reserve::step` meets its contract: where the one test finds nothing wrong the clauses, else the state as it came.
+use mathlib.Core.Path.{sym, _∙_}
+use borrow.Author.Tests.{not-false, not-true}
+use Rattle.reserve.proofs.Steps.{ways}
 use Rattle.reserve.proofs.Reserve.step.Statement.{statement}
 use Rattle.reserve.proofs.Reserve.step.Tie as tie
 
 returns : tie.Need-returns
-unfolding stepOf
-returns c = refuses (notTaken _) _ (c .before .refusal .ensures) (c .if1 .taken)
+returns c =
+    let tested = c .before .before in
+    let a = tested .before .before .before .args in
+    rw (c .step-number .ensures) (ways (a .self) (a .a) (a .b) (a .c) (a .d) .1 (sym (tested .admits .ensures) ∙ not-true _ (c .before .if1 .taken)))
 
 returns-2 : tie.Need-returns-2
-unfolding stepOf
-returns-2 c = c .clauses .ensures ∙ works (notTaken _) _ (c .before .before .refusal .ensures) (c .before .if1 .left)
+returns-2 c =
+    let tested = c .before .before in
+    let a = tested .before .before .before .args in
+    c .clauses .ensures ∙ ways (a .self) (a .a) (a .b) (a .c) (a .d) .0 (sym (tested .admits .ensures) ∙ not-false _ (c .before .if1 .left))
 
 pub step-spec : {M : Type 1} → statement M
-step-spec = tie.close (tie.spec (λ _ _. tt) returns (λ _ _. tt) returns-2)
+step-spec = tie.close (tie.spec (λ _ _. tt) (λ _ _. tt) returns (λ _ _. tt) returns-2)

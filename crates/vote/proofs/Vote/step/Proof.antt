@@ -1,29 +1,47 @@
--- `Vote::step` meets its contract: with a refusal the state as it came, without one the clauses.
-use mathlib.Core.Path.{_≡_, _∙_}
+-- `Vote::step` meets its contract: where the one test finds nothing wrong the clauses, else the state as it came.
+use mathlib.Core.Path.{_≡_, sym, _∙_}
+use mathlib.Core.Bool.{Bool, true, false, _||_}
+use borrow.Author.Tests.{not-false, not-true}
+use Prim.Native.Nat.{ℕ}
+use lib.Bits.{bitOr}
+use lib.Dec.{eqb}
+use Rattle.rules.specs.Limits.{badCount, outside}
 use Rattle.rules.specs.Table.{first}
-use Rattle.rules.proofs.Tables.{refuses, works}
-use Rattle.vote.specs.Vote.{rowsOf, notTaken, stepOf}
+use Rattle.rules.specs.Refusals.{stepRows, admits}
+use Rattle.rules.proofs.Steps.{admits-exactly, by-one-test}
+use Rattle.rules.proofs.Width.{outside-or}
+use Rattle.vote.specs.declared.Vote.{Vote}
+use Rattle.vote.specs.Vote.{clauses, rowsOf, badState, notTaken, stepOf}
 use Rattle.vote.proofs.Vote.step.Statement.{statement}
 use Rattle.vote.proofs.Vote.step.Tie as tie
 
-found : (c : tie.After-step-refusal) → let a = c .before .before .before .before .before .args in
-    c .step-refusal .result ≡ first (rowsOf (a .self) (a .a) (a .b))
-found c =
-    rw (
-      c .step-refusal .ensures,
-      c .before .bad-state .ensures,
-      c .before .before .bad-count .ensures,
-      c .before .before .before .outside2 .ensures,
-      c .before .before .before .before .outside .ensures,
-    )
+module _ (s : Vote) (a b : ℕ) (reset : Bool) where
+  abbrev admitted : Bool
+  admitted = admits (s .n) (s .need) (s .count) (bitOr (bitOr a b) (s .word))
+
+  -- the one test is the table's
+  one-test : admitted ≡ eqb (first (rowsOf s a b)) 0
+  one-test = rw (← outside-or (s .n) a b) (admits-exactly (s .n) (s .need) (s .count) (bitOr a b) (s .word))
+
+  ways :
+      (admitted ≡ true → clauses s a b reset ≡ stepOf s a b reset)
+      × (admitted ≡ false → notTaken s (first (stepRows (badCount (s .need)) (s .n) (outside (s .n) (bitOr a b)) true)) ≡ stepOf s a b reset)
+  unfolding stepOf
+  ways =
+      rw (outside-or (s .n) a b)
+      (by-one-test (badCount (s .need)) (s .n) (outside (s .n) a || outside (s .n) b) (badState s) (notTaken s) (clauses s a b reset) one-test)
 
 returns : tie.Need-returns
-unfolding stepOf
-returns c = refuses (notTaken _) _ (found (c .before)) (c .if1 .taken)
+returns c =
+    let tested = c .before .before in
+    let a = tested .before .before .args in
+    rw (c .step-number .ensures) (ways (a .self) (a .a) (a .b) (a .reset) .1 (sym (tested .admits .ensures) ∙ not-true _ (c .before .if1 .taken)))
 
 returns-2 : tie.Need-returns-2
-unfolding stepOf
-returns-2 c = c .clauses .ensures ∙ works (notTaken _) _ (found (c .before .before)) (c .before .if1 .left)
+returns-2 c =
+    let tested = c .before .before in
+    let a = tested .before .before .args in
+    c .clauses .ensures ∙ ways (a .self) (a .a) (a .b) (a .reset) .0 (sym (tested .admits .ensures) ∙ not-false _ (c .before .if1 .left))
 
 pub step-spec : {M : Type 1} → statement M
-step-spec = tie.close (tie.spec (λ _ _. tt) (λ _ _. tt) (λ _ _. tt) (λ _ _. tt) (λ _ _. tt) returns (λ _ _. tt) returns-2)
+step-spec = tie.close (tie.spec (λ _ _. tt) (λ _ _. tt) returns (λ _ _. tt) returns-2)

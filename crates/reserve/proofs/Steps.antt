@@ -1,0 +1,41 @@
+-- The one test of a reserve step: it is the table's, and decides between the clauses and a refusal.
+use mathlib.Core.Path.{_≡_}
+use mathlib.Core.Bool.{Bool, true, false, _||_}
+use Prim.Native.Nat.{ℕ}
+use lib.Bits.{bitOr}
+use lib.Dec.{eqb}
+use Rattle.rules.specs.Limits.{badCount, outside}
+use Rattle.rules.specs.Table.{first}
+use Rattle.rules.specs.Refusals.{stepRows, admits}
+use Rattle.rules.proofs.Steps.{admits-exactly, by-one-test}
+use Rattle.rules.proofs.Width.{outside-or}
+use Rattle.vote.specs.Vote.{badState}
+use Rattle.vote.specs.declared.Vote.{Vote}
+use Rattle.reserve.specs.declared.Reserve.{Reserve}
+use Rattle.reserve.specs.Reserve.{clauses, rowsOf, notTaken, stepOf}
+
+-- the words of the four units in one
+abbrev pub union : ℕ → ℕ → ℕ → ℕ → ℕ
+union a b c d = bitOr (bitOr a b) (bitOr c d)
+
+pub union-outside : (n a b c d : ℕ) → outside n (union a b c d) ≡ outside n a || outside n b || (outside n c || outside n d)
+union-outside n a b c d = rw (outside-or n (bitOr a b) (bitOr c d), outside-or n a b, outside-or n c d)
+
+module _ (s : Reserve) (a b c d : ℕ) where
+  abbrev pub admitted : Bool
+  admitted = let v = s .vote in admits (v .n) (v .need) (v .count) (bitOr (union a b c d) (v .word))
+
+  pub one-test : admitted ≡ eqb (first (rowsOf s a b c d)) 0
+  one-test =
+      let v = s .vote in
+      rw (← union-outside (v .n) a b c d) (admits-exactly (v .n) (v .need) (v .count) (union a b c d) (v .word))
+
+  pub ways : let v = s .vote in
+      (admitted ≡ true → clauses s a b c d ≡ stepOf s a b c d)
+      × (admitted ≡ false → notTaken s (first (stepRows (badCount (v .need)) (v .n) (outside (v .n) (union a b c d)) true)) ≡ stepOf s a b c d)
+  unfolding stepOf
+  ways =
+      let v = s .vote in
+      rw (union-outside (v .n) a b c d)
+      (by-one-test (badCount (v .need)) (v .n) (outside (v .n) a || outside (v .n) b || (outside (v .n) c || outside (v .n) d)) (badState v) (notTaken s)
+      (clauses s a b c d) one-test)

@@ -1,0 +1,111 @@
+-- A step tested at once: the one test is true exactly when no row of its table is, and where it is false the table's number is
+-- that of a damaged state.
+use Prim.Native.Nat.{ℕ, _-_}
+use mathlib.Core.Path.{_≡_, refl, sym, ap, _∙_}
+use mathlib.Core.Logic.{dite}
+use mathlib.Core.List.{List, [], _∷_}
+use mathlib.Core.Bool.{Bool, true, false, not, _&&_, _||_, or-true, true≢false}
+use native.Mathlib.Decide.{decLt}
+use native.Mathlib.Omega.{arith}
+use lib.Bits.{bitOr}
+use lib.Dec.{ltb, leb, eqb}
+use borrow.Author.Tests.{ltb-true, ltb-false, leb-true, leb-false, lt-ltb, le-ltb, eq-eqb, ne-eqb}
+use Rattle.rules.specs.Limits.{badCount, badWidth, outside}
+use Rattle.rules.specs.Table.{Row, _when_, first, answer, orElse}
+use Rattle.rules.specs.Refusals.{stepRows, admits}
+use Rattle.rules.proofs.Width.{outside-or}
+
+-- a step's rows, by their tests
+abbrev fourRows : Bool → Bool → Bool → Bool → List Row
+fourRows m w o d = 1 when m ∷ 2 when w ∷ 6 when o ∷ 7 when d ∷ []
+
+-- a count below N, where N is 1,000 at the most, is what the first row and the state's leave
+pub count-below : (need count : ℕ) → ltb count need && leb need 1000 ≡ not (badCount need || ltb (need - 1) count)
+count-below need count = go (ltb count need) (leb need 1000) refl refl where
+  go : (p q : Bool) → ltb count need ≡ p → leb need 1000 ≡ q → p && q ≡ not (badCount need || ltb (need - 1) count)
+  go true true e f =
+      let low = ltb-true count need e in
+      let high = leb-true need 1000 f in
+      rw (ne-eqb need 0 (λ z. omega arith), le-ltb 1000 need high, le-ltb (need - 1) count (omega arith))
+  go true false e f = let high = leb-false need 1000 f in rw (ne-eqb need 0 (λ z. omega arith), lt-ltb 1000 need high)
+  go false q e f =
+      dite (decLt 0 need)
+      (λ z. rw (lt-ltb (need - 1) count (omega (arith, ltb-false count need e)), or-true))
+      (λ z. rw (eq-eqb need 0 (omega arith)))
+
+-- the one test, where the width is bad, and where it is not: `q` is that the words are inside
+pub no-width : (m o l : Bool) → false ≡ not (m || true || o || l)
+no-width true o l = refl
+no-width false o l = refl
+
+pub with-width : (m q l : Bool) → not (m || l) && q ≡ not (m || false || not q || l)
+with-width true q l = refl
+with-width false true true = refl
+with-width false true false = refl
+with-width false false true = refl
+with-width false false false = refl
+
+-- the one test, and the tests of the table: `o` of the sample's words, `s` of the state's, `l` of its count
+whole : (m w o s l : Bool) → not (m || w || (o || s) || l) ≡ eqb (first (fourRows m w o (l || s))) 0
+unfolding first
+whole true w o s l = refl
+whole false true o s l = refl
+whole false false true s l = refl
+whole false false false true true = refl
+whole false false false true false = refl
+whole false false false false true = refl
+whole false false false false false = refl
+
+pub admits-exactly :
+    (n need count sample stored : ℕ)
+    → admits n need count (bitOr sample stored) ≡ eqb (first (stepRows (badCount need) n (outside n sample) (ltb (need - 1) count || outside n stored))) 0
+admits-exactly n need count sample stored =
+    rw (outside-or n sample stored) (whole (badCount need) (badWidth n) (outside n sample) (outside n stored) (ltb (need - 1) count))
+
+-- one more reason for row 7: in the table, and in the one test
+more : (m w o d p : Bool) → orElse (first (fourRows m w o d)) 7 p ≡ first (fourRows m w o (d || p))
+unfolding first
+more true w o d p = refl
+more false true o d p = refl
+more false false true d p = refl
+more false false false true p = refl
+more false false false false true = refl
+more false false false false false = refl
+
+more-tests : (m w o d p : Bool) → eqb (first (fourRows m w o d)) 0 && not p ≡ eqb (first (fourRows m w o (d || p))) 0
+unfolding first
+more-tests true w o d p = refl
+more-tests false true o d p = refl
+more-tests false false true d p = refl
+more-tests false false false true p = refl
+more-tests false false false false true = refl
+more-tests false false false false false = refl
+
+damaged : (m w o d : Bool) → eqb (first (fourRows m w o d)) 0 ≡ false → first (fourRows m w o d) ≡ first (fourRows m w o true)
+unfolding first
+damaged true w o d e = refl
+damaged false true o d e = refl
+damaged false false true d e = refl
+damaged false false false true e = refl
+damaged false false false false e = absurd (true≢false e)
+
+module _ (m : Bool) (n : ℕ) (o d : Bool) where
+  pub one-reason-more : (p : Bool) → orElse (first (stepRows m n o d)) 7 p ≡ first (stepRows m n o (d || p))
+  one-reason-more = more m (badWidth n) o d
+
+  pub one-test-more : (p : Bool) → eqb (first (stepRows m n o d)) 0 && not p ≡ eqb (first (stepRows m n o (d || p))) 0
+  one-test-more = more-tests m (badWidth n) o d
+
+  -- the number of a step that is not taken
+  pub refused-number : eqb (first (stepRows m n o d)) 0 ≡ false → first (stepRows m n o d) ≡ first (stepRows m n o true)
+  refused-number = damaged m (badWidth n) o d
+
+  -- the two ways to answer, as code finds them by the one test
+  pub by-one-test :
+      {A : Type 0} (refuse : ℕ → A) (work : A) {admitted : Bool}
+      → admitted ≡ eqb (first (stepRows m n o d)) 0
+      → (admitted ≡ true → work ≡ answer (first (stepRows m n o d)) refuse work)
+      × (admitted ≡ false → refuse (first (stepRows m n o true)) ≡ answer (first (stepRows m n o d)) refuse work)
+  by-one-test refuse work {admitted} found = (λ e. rw (← found, e), λ e. not-taken (sym found ∙ e)) where
+    not-taken : eqb (first (stepRows m n o d)) 0 ≡ false → refuse (first (stepRows m n o true)) ≡ answer (first (stepRows m n o d)) refuse work
+    not-taken e = rw (e, refused-number e)
