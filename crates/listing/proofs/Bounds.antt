@@ -7,15 +7,11 @@ use native.Mathlib.Omega.{arith}
 use lib.Dec.{ltb, lit≤}
 use lib.ListN.{length, getD, length-append}
 use borrow.Author.Tests.{ltb-true, ltb-false}
-use Rattle.text.specs.Text.{bytes, placesUpTo, places}
-use Rattle.text.proofs.Digits.{decimal-length, hex-length, places-most, places-few}
+use Rattle.text.specs.Text.{bytes, placesUpTo, places, line}
+use Rattle.text.proofs.Digits.{decimal-length, hex-length, places-most, places-few, line-length}
 use Rattle.listing.specs.declared.Kind.{Kind}
 use Rattle.listing.specs.declared.Kind.the-variants.{Confirm, Pair, Reserve}
-use Rattle.listing.specs.Listing.{name, heading, letter, line, joined, lineAt, listingOf, refusedText, longest}
-
-pub line-length : (number word mark last : ℕ) → length (line number word mark last) ≡ places number + 21
-unfolding line bytes
-line-length number word mark last = simp (length-append, decimal-length, hex-length) (omega arith)
+use Rattle.listing.specs.Listing.{name, heading, letter, joined, lineAt, listingOf, refusedText, longest}
 
 -- the lines of the samples below k
 unfoldable pub linesLength : ℕ → ℕ

@@ -11,11 +11,11 @@ use borrow.Author.Tests.{ne-eqb}
 use Rattle.rules.specs.Choose.{if_then_else_}
 use Rattle.trace.specs.declared.RunAnswer.the-variants.{Done, Refused}
 use Rattle.recording.specs.Recording.{headerOf, readOf}
-use Rattle.text.specs.Text.{bytes, glyph, digits}
+use Rattle.text.specs.Text.{bytes, glyph, digits, line}
 use Rattle.listing.specs.declared.Kind.{Kind}
 use Rattle.listing.specs.declared.Kind.the-variants.{Confirm, Pair, Reserve}
 use Rattle.listing.specs.Lines.{occurrences, newlines}
-use Rattle.listing.specs.Listing.{name, heading, letter, line, joined, lineAt, listingOf, refusedText, textOf}
+use Rattle.listing.specs.Listing.{name, heading, letter, joined, lineAt, listingOf, refusedText, textOf}
 use Rattle.listing.proofs.Texts.{accepted-shown, refused-text}
 
 pub occurrences-append : (c : ℕ) (s t : List ℕ) → occurrences c (s ++ t) ≡ occurrences c s + occurrences c t

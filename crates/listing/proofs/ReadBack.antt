@@ -11,13 +11,13 @@ use lib.ListN.{length, getD, take, drop, length-append}
 use lib.Seq.{take-at, drop-at, ext-getD}
 use borrow.Author.Tests.{eq-eqb}
 use Rattle.rules.specs.Choose.{if_then_else_}
-use Rattle.text.specs.Text.{bytes, places, decimal, hex8}
+use Rattle.text.specs.Text.{bytes, places, decimal, hex8, line}
 use Rattle.text.proofs.ReadBack.{decimal-inj, hex-inj}
+use Rattle.text.proofs.Digits.{line-length}
 use Rattle.listing.specs.declared.Kind.{Kind}
 use Rattle.listing.specs.declared.Kind.the-variants.{Confirm, Pair, Reserve}
 use Rattle.listing.specs.Lines.{occurrences}
-use Rattle.listing.specs.Listing.{name, heading, letter, line, joined, lineAt, listingOf, refusedText}
-use Rattle.listing.proofs.Bounds.{line-length}
+use Rattle.listing.specs.Listing.{name, heading, letter, joined, lineAt, listingOf, refusedText}
 use Rattle.listing.proofs.Lines.{digits-free}
 
 -- two texts begin with pieces that end at their first c: the pieces are the same, and so is what follows

@@ -1,6 +1,6 @@
 -- The text of a listing: document 01, "The recording". Bytes of a recording in, text out, line by line.
 use Prim.Native.Nat.{ℕ, zero, suc, _≤_}
-use Prim.Native.Char.{Char, code}
+use Prim.Native.Char.{code}
 use Prim.Native.String.{String}
 use mathlib.Core.Path.{_≡_}
 use mathlib.Core.Bool.{Bool, false}
@@ -20,7 +20,7 @@ use Rattle.reserve.specs.Run as reserveRun
 use Rattle.reserve.specs.declared.ReserveStep.{ReserveStep}
 use Rattle.recording.specs.Recording.{sampleAt, readOf}
 use Rattle.recording.specs.declared.Header.{Header}
-use Rattle.text.specs.Text.{bytes, decimal, hex8}
+use Rattle.text.specs.Text.{bytes, decimal, line}
 use Rattle.listing.specs.declared.Kind.{Kind}
 use Rattle.listing.specs.declared.Kind.the-variants.{Confirm, Pair, Reserve}
 use Rattle.listing.specs.declared.ListAnswer.{ListAnswer}
@@ -37,27 +37,23 @@ heading kind samples n need =
     bytes (name kind) ++ bytes " " ++ decimal samples ++ bytes " " ++ decimal n ++ bytes " " ++ decimal need ++ bytes "\n"
 
 -- the mark is C confirmed, A agreed, H held, ! alarm (`pair` uses C, H, !)
-abbrev pub passed : Kind → Char
-passed Confirm = "C"
-passed Pair = "C"
-passed Reserve = "A"
+abbrev pub passed : Kind → ℕ
+passed Confirm = code "C"
+passed Pair = code "C"
+passed Reserve = code "A"
 
 abbrev pub letter : Kind → ℕ → ℕ
 letter kind mark =
-    if eqb mark 0 then code (passed kind) else
+    if eqb mark 0 then passed kind else
     if eqb mark 1 then code "H" else
     code "!"
-
--- a line per sample: number, output word in 8 lowercase hex digits, a mark, and 8 hex digits more
-unfoldable pub line : ℕ → ℕ → ℕ → ℕ → List ℕ
-line number word mark last =
-    decimal number ++ bytes " " ++ hex8 word ++ bytes " " ++ (mark ∷ []) ++ bytes " " ++ hex8 last ++ bytes "\n"
 
 -- texts one after the other: f 0, f 1, … below n
 unfoldable pub joined : ℕ → (ℕ → List ℕ) → List ℕ
 joined zero f = []
 joined (suc n) f = joined n f ++ f n
 
+-- a line per sample: number, output word in 8 lowercase hex digits, a mark, and 8 hex digits more
 abbrev pub lineAt : Kind → List ℕ → List ℕ → List ℕ → ℕ → List ℕ
 lineAt kind words marks lasts i = line i (getD words i 0) (letter kind (getD marks i 0)) (getD lasts i 0)
 

@@ -6,7 +6,7 @@ ghost use Prim.Native.Nat.{_≤_};
 ghost use lib.ListN.{length};
 ghost use Rattle.text.specs.Text.{bytes};
 ghost use Rattle.text.specs.Put.{Writes};
-ghost use Rattle.listing.specs.Listing.{name, heading, letter, line, joined, lineAt, listingOf, refusedText};
+ghost use Rattle.listing.specs.Listing.{name, heading, passed, letter, joined, lineAt, listingOf, refusedText};
 
 fn put_name(out: &mut [u8], at: usize, kind: Kind) -> usize
     ensures { λ r. ⌜ Writes (now (out .entry)) at (bytes (name kind)) r (now (out .exit)) ⌝ }
@@ -32,35 +32,24 @@ fn put_heading(out: &mut [u8], at: usize, kind: Kind, samples: u32, n: u32, need
     text::put_byte(out, at, b'\n')
 }
 
-// The letter of a mark byte.
+// The letter of a sample that was taken.
+fn passed(kind: Kind) -> u8
+    ensures { λ r. ⌜ r ≡ passed kind ⌝ }
+{
+    match kind {
+        Kind::Confirm => b'C',
+        Kind::Pair => b'C',
+        Kind::Reserve => b'A',
+    }
+}
+
+// The letter of a mark byte; all three stand ready, since nothing foresees the mark.
 fn letter(kind: Kind, mark: u8) -> u8
     ensures { λ r. ⌜ r ≡ letter kind mark ⌝ }
 {
-    if mark == 0 {
-        return match kind {
-            Kind::Confirm => b'C',
-            Kind::Pair => b'C',
-            Kind::Reserve => b'A',
-        };
-    }
-    if mark == 1 {
-        return b'H';
-    }
-    b'!'
-}
-
-// The line of one sample.
-fn put_line(out: &mut [u8], at: usize, number: u32, word: u32, mark: u8, last: u32) -> usize
-    ensures { λ r. ⌜ Writes (now (out .entry)) at (line number word mark last) r (now (out .exit)) ⌝ }
-{
-    let at = text::put_decimal(out, at, number);
-    let at = text::put_byte(out, at, b' ');
-    let at = text::put_hex(out, at, word);
-    let at = text::put_byte(out, at, b' ');
-    let at = text::put_byte(out, at, mark);
-    let at = text::put_byte(out, at, b' ');
-    let at = text::put_hex(out, at, last);
-    text::put_byte(out, at, b'\n')
+    let taken = passed(kind);
+    let other = if mark == 1 { b'H' } else { b'!' };
+    if mark == 0 { taken } else { other }
 }
 
 // A line for each sample.
@@ -82,7 +71,7 @@ fn put_lines(
     let mut i = 0;
     while i < words.len() {
         let mark = letter(kind, marks[i]);
-        to = put_line(out, to, i as u32, words[i], mark, lasts[i]);
+        to = text::put_line(out, to, i as u32, words[i], mark, lasts[i]);
         i += 1;
     }
     to

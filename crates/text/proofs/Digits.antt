@@ -10,7 +10,7 @@ use lib.Dec.{ltb}
 use lib.ListN.{length, set, length-append}
 use borrow.Author.Tests.{lt-ltb, le-ltb}
 use Rattle.rules.specs.Choose.{if_then_else_}
-use Rattle.text.specs.Text.{glyph, digits, placesUpTo, places, decimal, hex8}
+use Rattle.text.specs.Text.{bytes, glyph, digits, placesUpTo, places, decimal, hex8, line}
 use Rattle.text.specs.Put.{laid}
 use Rattle.text.proofs.Laws.{laid-nothing, laid-last}
 
@@ -28,12 +28,16 @@ decimal-length n = digits-length 10 (places n) n
 pub hex-length : (w : ℕ) → length (hex8 w) ≡ 8
 hex-length w = digits-length 16 8 w
 
+pub line-length : (number word letter last : ℕ) → length (line number word letter last) ≡ places number + 21
+unfolding line bytes
+line-length number word letter last = simp (length-append, decimal-length, hex-length) (omega arith)
+
 -- a tenth of a number below 10 ^ suc k is below 10 ^ k
 pub tenth : (k n : ℕ) → n < 10 ^ suc k → n / 10 < 10 ^ k
 tenth k n h = div-lt-iff-lt-mul {k = 10} (omega arith) .1 (rw (pow-suc 10 k) at h)
 
 -- the two cases of the number of places
-places-one : (k n : ℕ) → n < 10 → placesUpTo k n ≡ 1
+pub places-one : (k n : ℕ) → n < 10 → placesUpTo k n ≡ 1
 unfolding placesUpTo
 places-one zero n h = refl
 places-one (suc k) n h = rw (lt-ltb n 10 h)
@@ -65,21 +69,29 @@ places-most = most-up-to 9
 pub places-few : (j n : ℕ) → n < 10 ^ suc j → places n ≤ suc j
 places-few = few-up-to 9
 
--- k places are counted, those of what is left are to come, and there are ten in all at the most
-pub record Counted (n k rest : ℕ) : Type 0 where
-  pub more : ℕ
-  pub counted : k + placesUpTo more rest ≡ places n + 1
-  pub enough : rest < 10 ^ suc more
-  pub most : k + more ≡ 10
+-- and so exactly: j + 1 from the j-th power on to the next
+some-up-to : (k n : ℕ) → 1 ≤ placesUpTo k n
+unfolding placesUpTo
+some-up-to zero n = omega arith
+some-up-to (suc k) n = go (ltb n 10) where
+  go : (b : Bool) → 1 ≤ (if b then 1 else suc (placesUpTo k (n / 10)))
+  go true = omega arith
+  go false = omega arith
 
-pub count-more : {n k rest : ℕ} → Counted n k rest → 10 ≤ rest → Counted n (k + 1) (rest / 10)
-count-more {n} {k} {rest} c h = go (c .more) (c .counted) (c .enough) (c .most) where
-  go : (f : ℕ) → k + placesUpTo f rest ≡ places n + 1 → rest < 10 ^ suc f → k + f ≡ 10 → Counted n (k + 1) (rest / 10)
-  go zero e l q = absurd (omega arith)
-  go (suc f) e l q = record { more = f; counted = omega (arith, places-more f rest h); enough = tenth (suc f) rest l; most = omega arith }
+power : (j : ℕ) → 1 ≤ 10 ^ j
+power zero = omega arith
+power (suc j) = omega (arith, pow-suc 10 j, power j)
 
-pub count-done : {n k rest : ℕ} → Counted n k rest → rest < 10 → k ≡ places n
-count-done {rest = rest} c h = omega (arith, places-one (c .more) rest h)
+many-up-to : (k j n : ℕ) → j ≤ k → 10 ^ j ≤ n → suc j ≤ placesUpTo k n
+many-up-to k zero n l h = some-up-to k n
+many-up-to zero (suc j) n l h = absurd (omega arith)
+many-up-to (suc k) (suc j) n l h =
+    let p = pow-suc 10 j in
+    let some = power j in
+    omega (arith, places-more k n (omega arith), many-up-to k j (n / 10) (omega arith) (omega arith))
+
+pub places-exactly : (j n : ℕ) → j ≤ 9 → 10 ^ j ≤ n → n < 10 ^ suc j → suc j ≡ places n
+places-exactly j n l low high = omega (arith, places-few j n high, many-up-to 9 j n l low)
 
 -- a digit is stored, and those before it are still to come
 pub store-digit :

@@ -84,6 +84,17 @@ module _ {old : List ℕ} {at : ℕ} {text : List ℕ} where
       let e = rw (le-leb _ _ h) at (p .next) in
       record { next = e; room = omega arith; buffer = rw (le-leb _ _ h) at (p .buffer) }
 
+-- what was written was written if there was room
+pub wrote : {old : List ℕ} {at : ℕ} {text : List ℕ} {r : ℕ} {new : List ℕ} → Wrote old at text r new → Writes old at text r new
+wrote w h = w
+
+-- of the room for a text and k bytes more the k are left after it
+pub room-left : {old : List ℕ} {at : ℕ} {text : List ℕ} {r : ℕ} {new : List ℕ} (k : ℕ)
+    → Wrote old at text r new → at + (length text + k) ≤ length old → r + k ≤ length new
+room-left {old} {at} {text} {new = new} k w h =
+    let same : length new ≡ length old = ap length (w .buffer) ∙ laid-length old at text (omega arith) in
+    omega arith
+
 -- THE LAW OF PIECES: one text, and another from the place that the first call answered, are the two in a row
 pub and-then : {old : List ℕ} {at : ℕ} {s : List ℕ} {r : ℕ} {mid t : List ℕ} {r′ : ℕ} {new : List ℕ}
     → Writes old at s r mid → Writes mid r t r′ new → Writes old at (s ++ t) r′ new

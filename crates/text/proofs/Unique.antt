@@ -8,12 +8,13 @@ use contract.Lifetimes.{Lfts}
 use Rattle.rules.specs.Choose.{if_then_else_}
 use Rattle.rules.specs.Promise.{Fixes}
 use Rattle.rules.proofs.Promise.{fixes}
-use Rattle.text.specs.Text.{decimal, hex8}
+use Rattle.text.specs.Text.{decimal, hex8, line}
 use Rattle.text.specs.Put.{laid, fits}
 use Rattle.text.proofs.put_byte.Reads as put-byte
 use Rattle.text.proofs.put_text.Reads as put-text
 use Rattle.text.proofs.put_decimal.Reads as put-decimal
 use Rattle.text.proofs.put_hex.Reads as put-hex
+use Rattle.text.proofs.put_line.Reads as put-line
 
 -- the answer, and the buffer as the call leaves it
 abbrev Seen : Type 0
@@ -33,3 +34,8 @@ put-decimal-unique κs = fixes (λ a z e p. cc)
 
 pub put-hex-unique : (κs : Lfts 1) → Fixes {O = Seen} (put-hex.Learnt κs) (λ z e. (z, now (e .0))) (λ a. put (now (a .0)) (a .1 .0) (hex8 (a .1 .1 .0)))
 put-hex-unique κs = fixes (λ a z e p. cc)
+
+pub put-line-unique :
+    (κs : Lfts 1)
+    → Fixes {O = Seen} (put-line.Learnt κs) (λ z e. (z, now (e .0))) (λ a. put (now (a .0)) (a .1 .0) (line (a .1 .1 .0) (a .1 .1 .1 .0) (a .1 .1 .1 .1 .0) (a .1 .1 .1 .1 .1 .0)))
+put-line-unique κs = fixes (λ a z e p. cc)

@@ -36,3 +36,8 @@ decimal n = digits 10 (places n) n
 -- a u32 in 8 hexadecimal digits
 abbrev pub hex8 : ℕ → List ℕ
 hex8 w = digits 16 8 w
+
+-- a line of four fields, a space between them: a number in decimal, a word in digits, a letter's code, and a word in digits
+unfoldable pub line : ℕ → ℕ → ℕ → ℕ → List ℕ
+line number word letter last =
+    decimal number ++ bytes " " ++ hex8 word ++ bytes " " ++ (letter ∷ []) ++ bytes " " ++ hex8 last ++ bytes "\n"

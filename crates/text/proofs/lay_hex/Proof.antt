@@ -1,69 +1,59 @@
--- `text::lay_hex` meets its contract. The invariant: the first i digits, those of what is left, laid at the place, give the whole.
-use mathlib.Core.Path.{_≡_, refl, sym, ap, _∙_}
-use mathlib.Core.List.{List}
-use Prim.Native.Nat.{ℕ, _+_, _%_, _≤_, _<_}
+-- `text::lay_hex` meets its contract: zeros and then the last digits are the eight of a small word.
+use mathlib.Core.Path.{_≡_}
+use mathlib.Core.List.{_++_}
+use Prim.Native.Nat.{ℕ, _+_, _/_, _<_, _≤_}
 use native.Mathlib.Omega.{arith}
 use borrow.Author.Needs.{needs}
-use lib.ListN.{length, length-set, getD}
-use Rattle.rules.specs.Signals.{asList}
-use Rattle.rules.proofs.Signals.{list-at}
-use Rattle.text.specs.Put.{laid}
-use Rattle.text.specs.Text.{bytes, digits, glyph}
-use Rattle.text.proofs.Digits.{digits-length, store-digit, store-done}
+use lib.ListN.{length}
+use Rattle.text.specs.Text.{bytes, glyph, digits, hex8}
+use Rattle.text.proofs.Digits.{hex-length}
+use Rattle.text.proofs.Laws.{wrote, and-then}
 use Rattle.text.proofs.lay_hex.Statement.{statement}
 use Rattle.text.proofs.lay_hex.Tie as tie
 
--- the table has the sixteen glyphs in their order
-in-order : bytes "0123456789abcdef" ≡ asList 16 glyph
-unfolding bytes asList glyph
-in-order = refl
+short : (w : ℕ) → w < 16 → bytes "0000000" ++ digits 16 1 w ≡ hex8 w
+unfolding bytes glyph digits
+short w h = let none : w / 16 ≡ 0 = omega arith in rw none
 
-looked-up : {glyphs : List ℕ} → glyphs ≡ bytes "0123456789abcdef" → (d : ℕ) → d < 16 → getD glyphs d 0 ≡ glyph d
-looked-up e d h = rw (e, in-order) (list-at glyph 16 d h)
+half : (w : ℕ) → w < 65536 → bytes "0000" ++ digits 16 4 w ≡ hex8 w
+unfolding bytes glyph digits
+half w h = let none : w / 16 / 16 / 16 / 16 ≡ 0 = omega arith in rw none
 
-abbrev Inv-loop : tie.InvT-loop
-Inv-loop out₀ at w glyphs i₀ rest₀ out i rest =
-    (i ≤ 8) × (length out ≡ length out₀) × (laid out at (digits 16 i rest) ≡ laid out₀ at (digits 16 8 w)) × (glyphs ≡ bytes "0123456789abcdef")
+room : (s : tie.Start) → let a = s .args in a .at + length (hex8 (a .w)) ≤ length (a .out .now)
+room s = omega (arith, hex-length (s .args .w), s .pre)
 
-abbrev μ-loop : tie.MeasureT-loop
-μ-loop out₀ at w glyphs i₀ rest₀ out i rest = i
-
-loop-holds : tie.Need-loop-holds Inv-loop μ-loop
-unfolding bytes
-loop-holds c = (omega arith, refl, refl, refl)
-
-loop-again : tie.Need-loop-again Inv-loop μ-loop
-unfolding bytes
-loop-again c =
-    let l = c .before .loop in
-    let a = c .before .before .before .before .args in
-    let stored = store-digit 16 (l .i) (l .rest) (a .at) _ (l .out) (omega arith) (looked-up (l .inv .3) (l .rest % 16) (omega arith)) (omega arith) in
-    (omega arith, rw length-set (l .inv .1), stored ∙ l .inv .2, l .inv .3)
-
-returns : tie.Need-returns Inv-loop μ-loop
+returns : tie.Need-returns
+unfolding bytes digits
 returns c =
-    let l = c .before .loop in
-    let a = c .before .before .before .before .args in
-    record {
-      next = ap (λ (n : ℕ). a .at + n) (sym (digits-length 16 8 (a .w)));
-      room = omega arith;
-      buffer = sym (store-done 16 (l .i) (l .rest) (a .at) (l .out) (omega arith)) ∙ l .inv .2;
-    }
+    let one = c .before .before in
+    let zeros = one .before .before .before .before in
+    let tested = zeros .before .before .before in
+    let s = tested .before .before in
+    (rw (short (s .args .w) (tested .if1 .taken)) at (and-then (wrote (zeros .lay-text .ensures)) (wrote (one .lay-glyphs .ensures)))) (room s)
+
+returns-2 : tie.Need-returns-2
+unfolding bytes digits
+returns-2 c =
+    let four = c .before .before in
+    let zeros = four .before .before .before .before in
+    let tested = zeros .before .before .before in
+    let s = tested .before .before .before in
+    (rw (half (s .args .w) (tested .if2 .taken)) at (and-then (wrote (zeros .lay-text2 .ensures)) (wrote (four .lay-glyphs2 .ensures)))) (room s)
 
 pub lay-hex-spec : {M : Type 1} → statement M
 lay-hex-spec =
     tie.close
     (tie.spec
-    Inv-loop
-    μ-loop
-    loop-holds
     (λ c. search needs)
+    (λ c κs. search needs)
+    (λ c κs. search needs)
     (λ c. search needs)
-    (λ c. omega arith)
+    returns
     (λ c. search needs)
+    (λ c κs. search needs)
+    (λ c κs. search needs)
     (λ c. search needs)
+    returns-2
+    (λ c κs. search needs)
     (λ c. search needs)
-    loop-again
-    (λ c. search needs)
-    (λ c. c .before .loop .inv .1)
-    returns)
+    (λ c. search needs))

@@ -7,16 +7,16 @@ use Rattle.text.proofs.Laws.{placed, kept}
 use Rattle.text.proofs.put_decimal.Statement.{statement}
 use Rattle.text.proofs.put_decimal.Tie as tie
 
-lay-digits-requires : tie.Need-lay-digits-requires
-lay-digits-requires c κs = leb-true _ _ (sym (c .before .before .has-room .ensures) ∙ c .before .if1 .taken)
+lay-number-requires : tie.Need-lay-number-requires
+lay-number-requires c κs = leb-true _ _ (sym (c .before .before .has-room .ensures) ∙ c .before .if1 .taken)
 
 returns : tie.Need-returns
 returns c =
     let laid = c .before .before in
-    rw (laid .before .before .before .before .places .ensures) at (placed (laid .lay-digits .ensures))
+    rw (laid .before .before .before .before .places .ensures) at (placed (laid .lay-number .ensures))
 
 returns-2 : tie.Need-returns-2
 returns-2 c = kept (rw digits-length (rw (c .before .before .places .ensures) at (sym (c .before .has-room .ensures) ∙ c .if1 .left)))
 
 pub put-decimal-spec : {M : Type 1} → statement M
-put-decimal-spec = tie.close (tie.spec (λ _ _. tt) (λ _ _. tt) lay-digits-requires (λ c. search needs) returns returns-2)
+put-decimal-spec = tie.close (tie.spec (λ _ _. tt) (λ _ _. tt) lay-number-requires (λ c. search needs) returns returns-2)

@@ -5,7 +5,7 @@ use native.Mathlib.Omega.{arith}
 use borrow.Author.Needs.{needs}
 use lib.ListN.{length}
 use Rattle.text.specs.Put.{Writes}
-use Rattle.text.proofs.Laws.{and-then}
+use Rattle.text.proofs.Laws.{and-then, written}
 use Rattle.listing.specs.Listing.{joined, lineAt}
 use Rattle.listing.proofs.Joined.{joined-none, joined-more}
 use Rattle.listing.proofs.sheet.put_lines.Statement.{statement}
@@ -26,7 +26,7 @@ loop-again c =
     let t = p .before .before .before .before in
     let l = t .before .before .before in
     let a = l .before .before .before .before .before .args in
-    (omega arith, p .put-line .kept .0 ∙ l .loop .inv .1, rw (joined-more (lineAt (a .kind) (a .words .now) (a .marks .now) (a .lasts .now)) (l .loop .i), ← t .letter .ensures) (and-then (l .loop .inv .2) (p .put-line .ensures)))
+    (omega arith, p .put-line .kept .0 ∙ l .loop .inv .1, rw (joined-more (lineAt (a .kind) (a .words .now) (a .marks .now) (a .lasts .now)) (l .loop .i), ← t .letter .ensures) (and-then (l .loop .inv .2) (written (p .put-line .ensures))))
 
 returns : tie.Need-returns Inv-loop μ-loop
 returns c =
