@@ -1,7 +1,7 @@
 pub mod Clauses
 pub mod Exactly
 pub mod HandOver
+pub mod OneTest
 pub mod Parts
-pub mod Steps
 pub mod Stepwise
 pub mod Unique

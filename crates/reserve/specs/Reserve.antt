@@ -28,21 +28,21 @@ phaseAfter (Alarm w) = TakingOver
 phaseAfter (Refused k) = Primary
 
 -- primary uses units 1 and 2, without a reset
-abbrev pub first-pair : VoteStep → ReserveStep
-first-pair t = record { state = record { phase = phaseAfter (t .answer); vote = t .state }; answer = t .answer; pair = 1 }
+abbrev pub firstPair : VoteStep → ReserveStep
+firstPair t = record { state = record { phase = phaseAfter (t .answer); vote = t .state }; answer = t .answer; pair = 1 }
 
 -- units 3 and 4; every step after that is "reserve", for ever
-abbrev pub second-pair : VoteStep → ReserveStep
-second-pair t = record { state = record { phase = Reserved; vote = t .state }; answer = t .answer; pair = 2 }
+abbrev pub secondPair : VoteStep → ReserveStep
+secondPair t = record { state = record { phase = Reserved; vote = t .state }; answer = t .answer; pair = 2 }
 
 -- the vote of the pair in force
 abbrev pub inPhase : Phase → Vote → ℕ → ℕ → ℕ → ℕ → ReserveStep
 -- primary: units 1 and 2, no reset
-inPhase Primary v a b c d = first-pair (vote.clauses v a b false)
+inPhase Primary v a b c d = firstPair (vote.clauses v a b false)
 -- taking over: units 3 and 4, with a reset
-inPhase TakingOver v a b c d = second-pair (vote.clauses v c d true)
+inPhase TakingOver v a b c d = secondPair (vote.clauses v c d true)
 -- reserve: units 3 and 4, no reset
-inPhase Reserved v a b c d = second-pair (vote.clauses v c d false)
+inPhase Reserved v a b c d = secondPair (vote.clauses v c d false)
 
 unfoldable pub clauses : Reserve → ℕ → ℕ → ℕ → ℕ → ReserveStep
 clauses s a b c d = inPhase (s .phase) (s .vote) a b c d

@@ -10,7 +10,7 @@ ghost use lib.ListN.{length, take, drop};
 ghost use Rattle.rules.specs.Limits.{defaultWord};
 ghost use Rattle.vote.specs.Run as voted;
 ghost use Rattle.reserve.specs.Parts.{tookOver};
-ghost use Rattle.reserve.specs.Reserve.{phaseAfter, first-pair, second-pair, clauses, madeOf, stepOf};
+ghost use Rattle.reserve.specs.Reserve.{phaseAfter, firstPair, secondPair, clauses, madeOf, stepOf};
 ghost use Rattle.reserve.specs.Run.{steps, shownWord, shownMark, samplesOf, Ran};
 
 // Which pair is in force: units 1 and 2; units 3 and 4 with a reset, for one step; units 3 and 4 for ever.
@@ -52,7 +52,7 @@ fn phase_after(answer: VoteAnswer) -> Phase
 }
 
 fn first_pair(taken: VoteStep) -> ReserveStep
-    ensures { λ r. ⌜ r ≡ first-pair taken ⌝ }
+    ensures { λ r. ⌜ r ≡ firstPair taken ⌝ }
 {
     let vote = taken.state;
     let answer = taken.answer;
@@ -65,7 +65,7 @@ fn first_pair(taken: VoteStep) -> ReserveStep
 }
 
 fn second_pair(taken: VoteStep) -> ReserveStep
-    ensures { λ r. ⌜ r ≡ second-pair taken ⌝ }
+    ensures { λ r. ⌜ r ≡ secondPair taken ⌝ }
 {
     let vote = taken.state;
     let answer = taken.answer;

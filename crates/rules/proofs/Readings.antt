@@ -4,7 +4,7 @@ use mathlib.Core.Path.{_≡_, refl, sym, _∙_}
 use mathlib.Core.Logic.{_↔_}
 use mathlib.Core.List.{List}
 use mathlib.Core.Bool.{Bool, true, false}
-use Prim.Native.Nat.{ℕ, _≤_}
+use Prim.Native.Nat.{ℕ}
 use Rattle.rules.specs.Limits.{badWidth, outside}
 use Rattle.rules.specs.Table.{Row, first, answer, numbered, rising, Given, LowestOf, _and_}
 use Rattle.rules.specs.Refusals.{makeRows, stepRows, runRows}

@@ -125,13 +125,6 @@ in-order (k when false ∷ rows) u = in-order rows (and-both (ltb 0 k) _ u .1)
 pub by-rows : (rows : List Row) {r : ℕ} → numbered rows ≡ true → r ≡ through 0 rows → r ≡ first rows
 by-rows rows u e = e ∙ in-order rows u
 
--- where one row more refuses nothing, nothing was refused before it
-pub none-before : (r k : ℕ) (b : Bool) → orElse r k b ≡ 0 → r ≡ 0
-none-before r k b = go (eqb r 0) refl where
-  go : (z : Bool) → eqb r 0 ≡ z → (if z then (if b then k else 0) else r) ≡ 0 → r ≡ 0
-  go true q e = eqb-true r 0 q
-  go false q e = e
-
 -- a row whose test is false changes nothing
 pub stays : (r k : ℕ) → orElse r k false ≡ r
 stays r k = go (eqb r 0) refl where

@@ -10,13 +10,12 @@ use Rattle.rules.specs.Limits.{badCount, outside}
 use Rattle.rules.specs.Table.{Row, first, Given, numbered}
 use Rattle.rules.specs.Refusals.{stepRows}
 use Rattle.rules.proofs.Tables.{or-neither, exactly}
-use Rattle.rules.proofs.Steps.{one-reason-more, one-test-more, refused-number}
+use Rattle.rules.proofs.OneTest.{one-reason-more, one-test-more, refused-number}
 use Rattle.vote.specs.Vote.{badState}
-use Rattle.vote.specs.declared.Vote.{Vote}
-use Rattle.reserve.specs.Reserve.{clauses, rowsOf, stepOf}
+use Rattle.reserve.specs.Reserve.{clauses, stepOf}
 use Rattle.reserve.specs.declared.Reserve.{Reserve}
 use Rattle.reserve.proofs.Exactly.{step-number}
-use Rattle.reserve.proofs.Steps.{union, union-outside, admitted, one-test, ways}
+use Rattle.reserve.proofs.OneTest.{union, union-outside, admitted, one-test, ways}
 use Rattle.scorvemaglio.specs.States.{reserveOf, noPhase}
 use Rattle.scorvemaglio.specs.Voters.{reserveNumber}
 

@@ -7,12 +7,10 @@ use mathlib.Core.Bool.{not}
 use denote.Ref.{now}
 use contract.Lifetimes.{Lfts}
 use lib.Dec.{eqb}
-use lib.Ieee.{Float}
 use Rattle.rules.specs.Limits.{defaultWord}
 use Rattle.rules.specs.Promise.{Fixes}
 use Rattle.rules.proofs.Promise.{fixes}
 use Rattle.trace.specs.Answers.{runNumber, runSample, after}
-use Rattle.trace.specs.declared.RunAnswer.{RunAnswer}
 use Rattle.confirm.specs.Confirm as confirm
 use Rattle.confirm.specs.Run as confirmRun
 use Rattle.vote.specs.Vote as vote

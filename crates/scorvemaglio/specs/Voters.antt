@@ -11,7 +11,6 @@ use Rattle.vote.specs.declared.VoteStep.{VoteStep}
 use Rattle.tuple.specs.Answers as tuple
 use Rattle.tuple.specs.declared.TupleMade.{TupleMade}
 use Rattle.tuple.specs.declared.TupleStep.{TupleStep}
-use Rattle.reserve.specs.Reserve.{stepOf}
 use Rattle.reserve.specs.declared.ReserveMade.{ReserveMade}
 use Rattle.reserve.specs.declared.ReserveStep.{ReserveStep}
 use Rattle.scorvemaglio.specs.Lent.{Makes, Steps}

@@ -1,4 +1,4 @@
-// The boundary for C: every public call of the library on numbers and lent arrays. A refused call returns its number and writes
+// The boundary for C: the calls that a dispatcher makes, on numbers and lent arrays. A refused call returns its number and writes
 // nothing; only the number of the sample is told with every run and every reading.
 mod confirms;
 mod others;

@@ -1,5 +1,5 @@
 -- Samples of two columns, and of four, taken together: as many as a column has, and each made of the columns' own.
-use mathlib.Core.Path.{_≡_, refl, ap, ap₂, _∙_}
+use mathlib.Core.Path.{_≡_, refl, ap, _∙_}
 use mathlib.Core.List.{List, [], _∷_, zip, zipWith}
 use Prim.Native.Nat.{ℕ, zero, suc, _<_}
 use native.Mathlib.Omega.{arith}
@@ -36,10 +36,3 @@ module _ (a b c d : List ℕ) (ab : length a ≡ length b) (ac : length a ≡ le
 
   pub four-length : length (zip (zip a b) (zip c d)) ≡ length a
   four-length = zip-length (zip a b) (zip c d) pairs-alike ∙ zip-length a b ab
-
-  pub four-at :
-      (i : ℕ) → i < length a
-      → getD (zip (zip a b) (zip c d)) i ((0, 0), (0, 0)) ≡ ((getD a i 0, getD b i 0), (getD c i 0, getD d i 0))
-  four-at i h =
-      zip-at (zip a b) (zip c d) i (0, 0) (0, 0) (omega (arith, zip-length a b ab)) pairs-alike
-      ∙ ap₂ (λ (p q : ℕ × ℕ). (p, q)) (zip-at a b i 0 0 h ab) (zip-at c d i 0 0 (omega arith) (omega arith))

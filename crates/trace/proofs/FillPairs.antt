@@ -1,11 +1,11 @@
--- A loop over two columns, or over four, fills a lent slice: the laws of `Fill`, by the columns' own places and length.
+-- A loop over two columns fills a lent slice: the laws of `Fill`, by the columns' own places and length.
 use mathlib.Core.Path.{_≡_, refl, sym, ap, _∙_}
 use mathlib.Core.List.{List, map, zip}
 use Prim.Native.Nat.{ℕ, _+_, _<_, _≤_}
 use native.Mathlib.Omega.{arith}
 use lib.ListN.{length, getD, set, length-set}
 use Rattle.trace.specs.Trace.{trace}
-use Rattle.trace.proofs.Columns.{zip-length, zip-at, four-length, four-at}
+use Rattle.trace.proofs.Columns.{zip-length, zip-at}
 use Rattle.trace.proofs.Fill.{Filled, turn, filled}
 
 abbrev pub FilledPair : {S T : Type 0} → (S → ℕ × ℕ → T) → (T → S) → (T → ℕ) → S → List ℕ → List ℕ → List ℕ → ℕ → S → Type 0
@@ -24,27 +24,3 @@ module _ {S T : Type 0} (step : S → ℕ × ℕ → T) (next : T → S) (f : T 
 
   pub filled-pair : (i : ℕ) (s : S) → length a ≤ i → FilledPair step next f s₀ a b l i s → l ≡ map f (trace step next s₀ (zip a b))
   filled-pair i s h e = filled step next f s₀ (zip a b) l i s (omega (arith, zip-length a b ab)) (e .1)
-
-abbrev pub FilledFour : {S T : Type 0} → (S → (ℕ × ℕ) × (ℕ × ℕ) → T) → (T → S) → (T → ℕ) → S → List ℕ → List ℕ → List ℕ → List ℕ → List ℕ → ℕ → S → Type 0
-FilledFour step next f s₀ a b c d l i s = (length l ≡ length a) × Filled step next f s₀ (zip (zip a b) (zip c d)) l i s
-
-module _ {S T : Type 0} (step : S → (ℕ × ℕ) × (ℕ × ℕ) → T) (next : T → S) (f : T → ℕ) (s₀ : S)
-    (a b c d : List ℕ) (alike : (length a ≡ length b) × (length a ≡ length c) × (length a ≡ length d)) (l : List ℕ) where
-  abbrev four : List ((ℕ × ℕ) × (ℕ × ℕ))
-  four = zip (zip a b) (zip c d)
-
-  as-long : length four ≡ length a
-  as-long = four-length a b c d (alike .0) (alike .1) (alike .2)
-
-  pub start-four : length a ≡ length l → FilledFour step next f s₀ a b c d l 0 s₀
-  start-four h = (sym h, (sym h ∙ sym as-long, refl))
-
-  pub turn-four :
-      (i : ℕ) (s : S) (t : T) (v : ℕ) → t ≡ step s ((getD a i 0, getD b i 0), (getD c i 0, getD d i 0)) → v ≡ f t → i < length a
-      → FilledFour step next f s₀ a b c d l i s → FilledFour step next f s₀ a b c d (set l i v) (i + 1) (next t)
-  turn-four i s t v q w h e =
-      let same = q ∙ ap (step s) (sym (four-at a b c d (alike .0) (alike .1) (alike .2) i h)) in
-      (length-set l i v ∙ e .0, turn step next f s₀ four l i s ((0, 0), (0, 0)) t v same w (omega (arith, as-long)) (e .1))
-
-  pub filled-four : (i : ℕ) (s : S) → length a ≤ i → FilledFour step next f s₀ a b c d l i s → l ≡ map f (trace step next s₀ four)
-  filled-four i s h e = filled step next f s₀ four l i s (omega (arith, as-long)) (e .1)

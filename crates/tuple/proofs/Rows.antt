@@ -10,7 +10,7 @@ use Rattle.rules.specs.Table.{first, numbered, orElse}
 use Rattle.rules.specs.Refusals.{stepRows}
 use Rattle.rules.proofs.Ranges.{width-range}
 use Rattle.rules.proofs.Readings.{step-0}
-use Rattle.rules.proofs.Steps.{refused-number}
+use Rattle.rules.proofs.OneTest.{refused-number}
 use Rattle.rules.proofs.Tables.{one-more}
 use Rattle.rules.proofs.Width.{outside-or}
 use Rattle.tuple.specs.declared.Tuple.{Tuple}

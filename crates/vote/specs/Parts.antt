@@ -17,10 +17,11 @@ unfoldable pub takenBy : Bool → Vote → List (ℕ × ℕ) → ℕ
 takenBy once s [] = 0
 takenBy once s (x ∷ xs) = suc (if once && eqb (shownMark (plain s x)) 2 then 0 else takenBy once (leaves (plain s x)) xs)
 
--- what is taken of two columns, and the state that is left: nothing where columns or slices differ in length
+-- how many samples are taken, and the state that is left
 abbrev pub part : Bool → Vote → List (ℕ × ℕ) → VotePart
 part once s xs = record { state = left plain leaves s (take (takenBy once s xs) xs); end = takenBy once s xs; over = true }
 
+-- of two columns: nothing where columns or slices differ in length
 abbrev pub partOf : Bool → Vote → List ℕ → List ℕ → List ℕ → List ℕ → VotePart
 partOf once s a b words marks =
     if differ (length a) (length b) || unequal a words marks then record { state = s; end = 0; over = true } else

@@ -11,93 +11,6 @@ use borrow.Author.Needs.{needs}
 use Rattle.reserve.proofs.take_over.Statement.{statement}
 use Rattle.reserve.proofs.take_over.Tie as tie
 
-mul-clauses : tie.Need-mul-clauses
-mul-clauses c = search needs
-
-shared-slice-read-clauses : tie.Need-shared-slice-read-clauses
-shared-slice-read-clauses c = search needs
-
-mul-clauses-2 : tie.Need-mul-clauses-2
-mul-clauses-2 c = search needs
-
-shared-slice-read-clauses-2 : tie.Need-shared-slice-read-clauses-2
-shared-slice-read-clauses-2 c = search needs
-
-clauses-requires : tie.Need-clauses-requires
-clauses-requires c κs = search needs
-
-word-requires : tie.Need-word-requires
-word-requires c κs = search needs
-
-mul-words : tie.Need-mul-words
-mul-words c = search needs
-
-slice-write-words : tie.Need-slice-write-words
-slice-write-words c = search needs
-
-mark-requires : tie.Need-mark-requires
-mark-requires c κs = search needs
-
-slice-write-marks : tie.Need-slice-write-marks
-slice-write-marks c = search needs
-
-add-rest : tie.Need-add-rest
-add-rest c = search needs
-
-mul-write-steps : tie.Need-mul-write-steps
-mul-write-steps c = search needs
-
-sub-write-steps : tie.Need-sub-write-steps
-sub-write-steps c = search needs
-
-part-write-steps-start : tie.Need-part-write-steps-start
-part-write-steps-start c = search needs
-
-part-write-steps-end : tie.Need-part-write-steps-end
-part-write-steps-end c = search needs
-
-mul-write-steps-2 : tie.Need-mul-write-steps-2
-mul-write-steps-2 c = search needs
-
-sub-write-steps-2 : tie.Need-sub-write-steps-2
-sub-write-steps-2 c = search needs
-
-part-write-steps-start-2 : tie.Need-part-write-steps-start-2
-part-write-steps-start-2 c = search needs
-
-part-write-steps-end-2 : tie.Need-part-write-steps-end-2
-part-write-steps-end-2 c = search needs
-
-mul-write-steps-3 : tie.Need-mul-write-steps-3
-mul-write-steps-3 c = search needs
-
-sub-write-steps-3 : tie.Need-sub-write-steps-3
-sub-write-steps-3 c = simp length-set (omega arith)
-
-part-write-steps-start-3 : tie.Need-part-write-steps-start-3
-part-write-steps-start-3 c = simp length-set (omega arith)
-
-part-write-steps-end-3 : tie.Need-part-write-steps-end-3
-part-write-steps-end-3 c = search needs
-
-sub-write-steps-4 : tie.Need-sub-write-steps-4
-sub-write-steps-4 c = simp length-set (omega arith)
-
-part-write-steps-start-4 : tie.Need-part-write-steps-start-4
-part-write-steps-start-4 c = simp length-set (omega arith)
-
-part-write-steps-end-4 : tie.Need-part-write-steps-end-4
-part-write-steps-end-4 c = search needs
-
-write-steps-requires : tie.Need-write-steps-requires
-write-steps-requires c κs = tt
-
-same-length : tie.Need-same-length
-same-length c = c .before .before .before .words .given .1 ∙ simp length-set
-
-same-length-2 : tie.Need-same-length-2
-same-length-2 c = c .before .marks .given .1 ∙ simp length-set
-
 returns : tie.Need-returns
 returns c =
     let wrote = c .before .before .before .before in
@@ -125,33 +38,33 @@ pub take-over-spec : {M : Type 1} → statement M
 take-over-spec =
     tie.close
     (tie.spec
-    mul-clauses
-    shared-slice-read-clauses
-    mul-clauses-2
-    shared-slice-read-clauses-2
-    clauses-requires
-    word-requires
-    mul-words
-    slice-write-words
-    mark-requires
-    slice-write-marks
-    add-rest
-    mul-write-steps
-    sub-write-steps
-    part-write-steps-start
-    part-write-steps-end
-    mul-write-steps-2
-    sub-write-steps-2
-    part-write-steps-start-2
-    part-write-steps-end-2
-    mul-write-steps-3
-    sub-write-steps-3
-    part-write-steps-start-3
-    part-write-steps-end-3
-    sub-write-steps-4
-    part-write-steps-start-4
-    part-write-steps-end-4
-    write-steps-requires
-    same-length
-    same-length-2
+    (λ c. search needs)
+    (λ c. search needs)
+    (λ c. search needs)
+    (λ c. search needs)
+    (λ c κs. search needs)
+    (λ c κs. search needs)
+    (λ c. search needs)
+    (λ c. search needs)
+    (λ c κs. search needs)
+    (λ c. search needs)
+    (λ c. search needs)
+    (λ c. search needs)
+    (λ c. search needs)
+    (λ c. search needs)
+    (λ c. search needs)
+    (λ c. search needs)
+    (λ c. search needs)
+    (λ c. search needs)
+    (λ c. search needs)
+    (λ c. search needs)
+    (λ c. simp length-set (omega arith))
+    (λ c. simp length-set (omega arith))
+    (λ c. search needs)
+    (λ c. simp length-set (omega arith))
+    (λ c. simp length-set (omega arith))
+    (λ c. search needs)
+    (λ _ _. tt)
+    (λ c. c .before .before .before .words .given .1 ∙ simp length-set)
+    (λ c. c .before .marks .given .1 ∙ simp length-set)
     returns)

@@ -7,18 +7,6 @@ use borrow.Author.Needs.{needs}
 use Rattle.reserve.proofs.write_steps.Statement.{statement}
 use Rattle.reserve.proofs.write_steps.Tie as tie
 
-write-steps-requires : tie.Need-write-steps-requires
-write-steps-requires c κs = search needs
-
-take-over-requires : tie.Need-take-over-requires
-take-over-requires c κs = search needs
-
-same-length : tie.Need-same-length
-same-length c = search needs
-
-same-length-2 : tie.Need-same-length-2
-same-length-2 c = search needs
-
 returns : tie.Need-returns
 returns c =
     let wrote = c .before .before .before .before .before .before .before .before .before .before .before .before in
@@ -29,12 +17,6 @@ returns c =
     let p = as-taken true (x .start .vote) (x .a .now) (x .b .now) (x .words .now) (x .marks .now) (alike .0) (pre .1 .0) (pre .1 .1 .0) _ _ _ (wrote .write-steps .ensures) in
     let over = c .before .before .before .before .take-over .ensures in
     (over .0 ∙ words-in-parts (x .start) (pre .1 .1 .1) (x .a .now) (x .b .now) (x .c .now) (x .d .now) (alike .0) (alike .1) (alike .2) _ _ _ _ _ _ p, over .1 ∙ marks-in-parts (x .start) (pre .1 .1 .1) (x .a .now) (x .b .now) (x .c .now) (x .d .now) (alike .0) (alike .1) (alike .2) _ _ _ _ _ _ p)
-
-same-length-3 : tie.Need-same-length-3
-same-length-3 c = search needs
-
-same-length-4 : tie.Need-same-length-4
-same-length-4 c = search needs
 
 returns-2 : tie.Need-returns-2
 returns-2 c =
@@ -50,11 +32,11 @@ pub write-steps-spec : {M : Type 1} → statement M
 write-steps-spec =
     tie.close
     (tie.spec
-    write-steps-requires
-    take-over-requires
-    same-length
-    same-length-2
+    (λ c κs. search needs)
+    (λ c κs. search needs)
+    (λ c. search needs)
+    (λ c. search needs)
     returns
-    same-length-3
-    same-length-4
+    (λ c. search needs)
+    (λ c. search needs)
     returns-2)

@@ -5,7 +5,7 @@ use mathlib.Core.Path.{sym, _∙_}
 use lib.Dec.{ltb}
 use Rattle.rules.specs.Limits.{badCount, outside}
 use Rattle.rules.proofs.Ranges.{width-range}
-use Rattle.rules.proofs.Steps.{count-below, no-width, with-width}
+use Rattle.rules.proofs.OneTest.{count-below, no-width, with-width}
 use Rattle.rules.proofs.Width.{shifted-out}
 use Rattle.rules.proofs.admits.Statement.{statement}
 use Rattle.rules.proofs.admits.Tie as tie

@@ -8,7 +8,7 @@ use lib.Dec.{ltb, eqb}
 use Rattle.rules.specs.Limits.{badCount, outside}
 use Rattle.rules.specs.Table.{first}
 use Rattle.rules.specs.Refusals.{stepRows, admits}
-use Rattle.rules.proofs.Steps.{admits-exactly, by-one-test}
+use Rattle.rules.proofs.OneTest.{admits-exactly, by-one-test}
 use Rattle.rules.proofs.Width.{outside-or}
 use Rattle.confirm.specs.declared.Confirm.{Confirm}
 use Rattle.confirm.specs.Confirm.{clauses, rowsOf, badState, notTaken, stepOf}

@@ -1,7 +1,7 @@
 -- `Reserve::step` meets its contract: where the one test finds nothing wrong the clauses, else the state as it came.
 use mathlib.Core.Path.{sym, _∙_}
 use borrow.Author.Tests.{not-false, not-true}
-use Rattle.reserve.proofs.Steps.{ways}
+use Rattle.reserve.proofs.OneTest.{ways}
 use Rattle.reserve.proofs.Reserve.step.Statement.{statement}
 use Rattle.reserve.proofs.Reserve.step.Tie as tie
 

@@ -2,7 +2,7 @@
 use mathlib.Core.Path.{_≡_, refl, _∙_}
 use borrow.Author.Needs.{needs}
 use denote.Ref.{now}
-use Rattle.reserve.proofs.Steps.{admitted}
+use Rattle.reserve.proofs.OneTest.{admitted}
 use Rattle.scorvemaglio.specs.States.{reserveOf}
 use Rattle.scorvemaglio.proofs.Laws.{not-taken, taken}
 use Rattle.scorvemaglio.proofs.Phases.{refused-as, taken-as}

@@ -1,5 +1,5 @@
 -- `Tuple::admits` meets its contract: the one test, with the places as one more reason for row 7.
-use mathlib.Core.Path.{_≡_, refl, sym, _∙_}
+use mathlib.Core.Path.{_≡_}
 use mathlib.Core.Bool.{Bool, true, false, not, _&&_, _||_, or-true, or-false, or-assoc}
 use Prim.Native.Nat.{ℕ, _-_}
 use borrow.Author.Needs.{needs}
@@ -7,8 +7,8 @@ use lib.Bits.{bitOr}
 use lib.Dec.{ltb, eqb}
 use Rattle.rules.specs.Limits.{badCount, outside}
 use Rattle.rules.specs.Table.{first}
-use Rattle.rules.specs.Refusals.{stepRows, admits}
-use Rattle.rules.proofs.Steps.{admits-exactly, one-test-more}
+use Rattle.rules.specs.Refusals.{admits}
+use Rattle.rules.proofs.OneTest.{admits-exactly, one-test-more}
 use Rattle.rules.proofs.Width.{outside-or}
 use Rattle.tuple.specs.declared.Tuple.{Tuple}
 use Rattle.tuple.specs.Tuple.{width, voteNeed, badPlaces, earlyRows}

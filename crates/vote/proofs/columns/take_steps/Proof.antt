@@ -30,36 +30,6 @@ loop-holds c =
     let pre = s .pre in
     (omega arith, pre .0, sym (pre .1 .0), sym (pre .1 .1), none-taken (x .once) (x .start) (x .a .now) (x .b .now) (pre .0) (x .words .now) (x .marks .now) (pre .1 .0) (pre .1 .1))
 
-mul-word : tie.Need-mul-word Inv-loop μ-loop
-mul-word c = search needs
-
-shared-slice-read-word : tie.Need-shared-slice-read-word Inv-loop μ-loop
-shared-slice-read-word c = omega arith
-
-mul-if1 : tie.Need-mul-if1 Inv-loop μ-loop
-mul-if1 c = search needs
-
-shared-slice-read-if1 : tie.Need-shared-slice-read-if1 Inv-loop μ-loop
-shared-slice-read-if1 c = omega arith
-
-agreed-requires : tie.Need-agreed-requires Inv-loop μ-loop
-agreed-requires c κs = tt
-
-mul-words : tie.Need-mul-words Inv-loop μ-loop
-mul-words c = search needs
-
-slice-write-words : tie.Need-slice-write-words Inv-loop μ-loop
-slice-write-words c = omega arith
-
-slice-write-marks : tie.Need-slice-write-marks Inv-loop μ-loop
-slice-write-marks c = omega arith
-
-add-i : tie.Need-add-i Inv-loop μ-loop
-add-i c = omega arith
-
-loop-less : tie.Need-loop-less Inv-loop μ-loop
-loop-less c = omega arith
-
 loop-again : tie.Need-loop-again Inv-loop μ-loop
 loop-again c =
     let in-loop = c .before .before .before .before .before in
@@ -77,20 +47,11 @@ write-apart-requires c κs =
     let inv = in-loop .before .loop .inv in
     (inv .1, (sym (inv .2), (sym (inv .3), (in-loop .loop-test .taken, c .before .before .if1 .left))))
 
-same-length : tie.Need-same-length Inv-loop μ-loop
-same-length c = omega arith
-
-same-length-2 : tie.Need-same-length-2 Inv-loop μ-loop
-same-length-2 c = omega arith
-
 returns : tie.Need-returns Inv-loop μ-loop
 returns c =
     let row = c .before .before .before .before .before in
     let inv = row .before .before .before .before .before .before .before .loop .inv in
     (c .if2 .taken, rw (c .if2 .taken) at (row .write-apart .ensures .1 _ _ _ (inv .4)))
-
-loop-less-2 : tie.Need-loop-less-2 Inv-loop μ-loop
-loop-less-2 c = omega arith
 
 loop-again-2 : tie.Need-loop-again-2 Inv-loop μ-loop
 loop-again-2 c =
@@ -99,12 +60,6 @@ loop-again-2 c =
     let on = rw (c .before .if2 .left) at (row .write-apart .ensures .1 _ _ _ (inv .4)) in
     let as-long = zip-length _ _ (inv .1) in
     (row .write-apart .ensures .0 .1, inv .1, on .words-long ∙ as-long, on .marks-long ∙ as-long, on)
-
-same-length-3 : tie.Need-same-length-3 Inv-loop μ-loop
-same-length-3 c = omega arith
-
-same-length-4 : tie.Need-same-length-4 Inv-loop μ-loop
-same-length-4 c = omega arith
 
 returns-2 : tie.Need-returns-2 Inv-loop μ-loop
 returns-2 c =
@@ -118,23 +73,23 @@ take-steps-spec =
     Inv-loop
     μ-loop
     loop-holds
-    mul-word
-    shared-slice-read-word
-    mul-if1
-    shared-slice-read-if1
-    agreed-requires
-    mul-words
-    slice-write-words
-    slice-write-marks
-    add-i
-    loop-less
+    (λ c. search needs)
+    (λ c. omega arith)
+    (λ c. search needs)
+    (λ c. omega arith)
+    (λ _ _. tt)
+    (λ c. search needs)
+    (λ c. omega arith)
+    (λ c. omega arith)
+    (λ c. omega arith)
+    (λ c. omega arith)
     loop-again
     write-apart-requires
-    same-length
-    same-length-2
+    (λ c. omega arith)
+    (λ c. omega arith)
     returns
-    loop-less-2
+    (λ c. omega arith)
     loop-again-2
-    same-length-3
-    same-length-4
+    (λ c. omega arith)
+    (λ c. omega arith)
     returns-2)

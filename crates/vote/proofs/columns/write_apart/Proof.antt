@@ -32,24 +32,6 @@ loop-holds c =
     let pre = c .before .before .before .before .pre in
     (omega arith, omega arith, pre .0, sym (pre .1 .0), sym (pre .1 .1 .0), λ s₀ w m p. p)
 
-mul-if1 : tie.Need-mul-if1 Inv-loop μ-loop
-mul-if1 c = search needs
-
-shared-slice-read-if1 : tie.Need-shared-slice-read-if1 Inv-loop μ-loop
-shared-slice-read-if1 c = omega arith
-
-mul-if1-2 : tie.Need-mul-if1-2 Inv-loop μ-loop
-mul-if1-2 c = search needs
-
-shared-slice-read-if1-2 : tie.Need-shared-slice-read-if1-2 Inv-loop μ-loop
-shared-slice-read-if1-2 c = omega arith
-
-same-length : tie.Need-same-length Inv-loop μ-loop
-same-length c = omega arith
-
-same-length-2 : tie.Need-same-length-2 Inv-loop μ-loop
-same-length-2 c = omega arith
-
 -- the row has a first sample, so that samples which agree stand past it
 past-first : (c : tie.At-loop Inv-loop μ-loop) → let x = c .before .before .before .before .before .args in let i = c .loop .i in
     getD (x .a .now) i 0 ≡ getD (x .b .now) i 0 → x .from < i
@@ -62,45 +44,6 @@ returns c =
     let at-loop = c .before .before .before .before in
     let inv = at-loop .loop .inv in
     ((past-first at-loop (c .if1 .taken), inv .1), inv .5)
-
-mul-clauses : tie.Need-mul-clauses Inv-loop μ-loop
-mul-clauses c = search needs
-
-shared-slice-read-clauses : tie.Need-shared-slice-read-clauses Inv-loop μ-loop
-shared-slice-read-clauses c = omega arith
-
-mul-clauses-2 : tie.Need-mul-clauses-2 Inv-loop μ-loop
-mul-clauses-2 c = search needs
-
-shared-slice-read-clauses-2 : tie.Need-shared-slice-read-clauses-2 Inv-loop μ-loop
-shared-slice-read-clauses-2 c = omega arith
-
-clauses-requires : tie.Need-clauses-requires Inv-loop μ-loop
-clauses-requires c κs = tt
-
-mark-requires : tie.Need-mark-requires Inv-loop μ-loop
-mark-requires c κs = tt
-
-word-requires : tie.Need-word-requires Inv-loop μ-loop
-word-requires c κs = tt
-
-mul-words : tie.Need-mul-words Inv-loop μ-loop
-mul-words c = search needs
-
-slice-write-words : tie.Need-slice-write-words Inv-loop μ-loop
-slice-write-words c = omega arith
-
-slice-write-marks : tie.Need-slice-write-marks Inv-loop μ-loop
-slice-write-marks c = omega arith
-
-add-i : tie.Need-add-i Inv-loop μ-loop
-add-i c = omega arith
-
-same-length-3 : tie.Need-same-length-3 Inv-loop μ-loop
-same-length-3 c = simp length-set (omega arith)
-
-same-length-4 : tie.Need-same-length-4 Inv-loop μ-loop
-same-length-4 c = simp length-set (omega arith)
 
 -- the step that the clauses take on sample i
 more-taken : (c : tie.After-word Inv-loop μ-loop) → let l = c .before .before .before .before .before .before .before .before .before .before .loop in
@@ -117,9 +60,6 @@ more-taken c s₀ words₀ marks₀ p =
 returns-2 : tie.Need-returns-2 Inv-loop μ-loop
 returns-2 c = ((omega arith, omega arith), more-taken (c .before))
 
-loop-less : tie.Need-loop-less Inv-loop μ-loop
-loop-less c = omega arith
-
 loop-again : tie.Need-loop-again Inv-loop μ-loop
 loop-again c =
     let at-loop = c .before .before .before .before .before .before .before .before .before .before .before in
@@ -131,12 +71,6 @@ loop-again c =
       length-set (l .marks) (l .i) _ ∙ l .inv .4,
       λ s₀ w m p. rw (c .if2 .left) at (more-taken (c .before) s₀ w m p),
     )
-
-same-length-5 : tie.Need-same-length-5 Inv-loop μ-loop
-same-length-5 c = omega arith
-
-same-length-6 : tie.Need-same-length-6 Inv-loop μ-loop
-same-length-6 c = omega arith
 
 returns-3 : tie.Need-returns-3 Inv-loop μ-loop
 returns-3 c =
@@ -150,29 +84,29 @@ write-apart-spec =
     Inv-loop
     μ-loop
     loop-holds
-    mul-if1
-    shared-slice-read-if1
-    mul-if1-2
-    shared-slice-read-if1-2
-    same-length
-    same-length-2
+    (λ c. search needs)
+    (λ c. omega arith)
+    (λ c. search needs)
+    (λ c. omega arith)
+    (λ c. omega arith)
+    (λ c. omega arith)
     returns
-    mul-clauses
-    shared-slice-read-clauses
-    mul-clauses-2
-    shared-slice-read-clauses-2
-    clauses-requires
-    mark-requires
-    word-requires
-    mul-words
-    slice-write-words
-    slice-write-marks
-    add-i
-    same-length-3
-    same-length-4
+    (λ c. search needs)
+    (λ c. omega arith)
+    (λ c. search needs)
+    (λ c. omega arith)
+    (λ _ _. tt)
+    (λ _ _. tt)
+    (λ _ _. tt)
+    (λ c. search needs)
+    (λ c. omega arith)
+    (λ c. omega arith)
+    (λ c. omega arith)
+    (λ c. simp length-set (omega arith))
+    (λ c. simp length-set (omega arith))
     returns-2
-    loop-less
+    (λ c. omega arith)
     loop-again
-    same-length-5
-    same-length-6
+    (λ c. omega arith)
+    (λ c. omega arith)
     returns-3)

@@ -15,16 +15,10 @@ returns c = record { answered = rw (c .if1 .taken); words-after = refl; marks-af
 take-steps-requires : tie.Need-take-steps-requires
 take-steps-requires c κs = or-each (same _ _) (or-each (same _ _) (same _ _)) (c .before .before .if1 .left)
 
-same-length : tie.Need-same-length
-same-length c = search needs
-
-same-length-2 : tie.Need-same-length-2
-same-length-2 c = search needs
-
 returns-2 : tie.Need-returns-2
 returns-2 c =
     let wrote = c .before .before .before .before in
     promised _ _ _ _ _ _ (wrote .before .before .before .if1 .left) (wrote .take-steps .result) _ _ (wrote .take-steps .ensures .0) (wrote .take-steps .ensures .1)
 
 pub write-steps-spec : {M : Type 1} → statement M
-write-steps-spec = tie.close (tie.spec returns take-steps-requires same-length same-length-2 returns-2)
+write-steps-spec = tie.close (tie.spec returns take-steps-requires (λ c. search needs) (λ c. search needs) returns-2)

@@ -7,10 +7,9 @@ use lib.Dec.{eqb}
 use Rattle.rules.specs.Limits.{badCount, outside}
 use Rattle.rules.specs.Table.{first}
 use Rattle.rules.specs.Refusals.{stepRows, admits}
-use Rattle.rules.proofs.Steps.{admits-exactly, by-one-test}
+use Rattle.rules.proofs.OneTest.{admits-exactly, by-one-test}
 use Rattle.rules.proofs.Width.{outside-or}
 use Rattle.vote.specs.Vote.{badState}
-use Rattle.vote.specs.declared.Vote.{Vote}
 use Rattle.reserve.specs.declared.Reserve.{Reserve}
 use Rattle.reserve.specs.Reserve.{clauses, rowsOf, notTaken, stepOf}
 
