@@ -112,7 +112,7 @@ typedef struct scorve_vote_answer {
 
 uint32_t scorve_vote_from_word(scorve_vote *state, uint32_t n, uint32_t need, uint32_t word);
 uint32_t scorve_vote_new(scorve_vote *state, uint32_t n, uint32_t need);
-/* reset: 0 is none, anything else a reset. */
+/* reset: 0 is none; with anything else a disagreement is held and the count is 0. */
 uint32_t scorve_vote_step(scorve_vote *state, uint32_t a, uint32_t b, uint32_t reset, scorve_vote_answer *answer);
 uint32_t scorve_vote_run(uint32_t n, uint32_t need, uint32_t word,
                          const uint32_t *a, size_t a_len,
@@ -174,7 +174,8 @@ uint32_t scorve_reserve_run(uint32_t n, uint32_t need, uint32_t word,
                             uint32_t *sample);
 
 /* Sizing: the count, the age bound and the quiet gap from the least and the
- * greatest gap between samples and the greatest delay, in microseconds: 2, 9, 10. */
+ * greatest gap between samples and the greatest delay, in microseconds: 2, 9, 10.
+ * The count is for confirmation; a vote needs more (docs/COMMISSIONING.md, 2). */
 typedef struct scorve_sizing {
   uint64_t count, age, quiet;
 } scorve_sizing;
