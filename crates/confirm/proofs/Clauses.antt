@@ -17,26 +17,20 @@ byTests s x changed waiting =
     if waiting then held s x (s .count + 1) else
     confirmed s x
 
-pub shown-stays : (s : Confirm) (x : ℕ) → shownWord (clauses s x) ≡ clauses s x .state .output
+-- what holds of each clause holds of the step
+pub each-clause : (s : Confirm) (P : ConfirmStep → Type 0) (x : ℕ) → P (held s x 0) → P (held s x (s .count + 1)) → P (confirmed s x) → P (clauses s x)
 unfolding clauses
-shown-stays s x = go (not (eqb x (s .input))) (ltb (s .count) (s .need - 1)) where
-  go : (p r : Bool) → shownWord (byTests s x p r) ≡ byTests s x p r .state .output
-  go true r = refl
-  go false true = refl
-  go false false = refl
+each-clause s P x u v w = go (not (eqb x (s .input))) (ltb (s .count) (s .need - 1)) where
+  go : (p r : Bool) → P (byTests s x p r)
+  go true r = u
+  go false true = v
+  go false false = w
 
-pub marks-few : (s : Confirm) (x : ℕ) → shownMark (clauses s x) ≤ 2
-unfolding clauses
-marks-few s x = go (not (eqb x (s .input))) (ltb (s .count) (s .need - 1)) where
-  go : (p r : Bool) → shownMark (byTests s x p r) ≤ 2
-  go true r = omega arith
-  go false true = omega arith
-  go false false = omega arith
+pub shown-stays : (s : Confirm) (x : ℕ) → shownWord (clauses s x) ≡ clauses s x .state .output
+shown-stays s x = each-clause s (λ (t : ConfirmStep). shownWord t ≡ t .state .output) x refl refl refl
+
+pub marks-few : (s : Confirm) (x : ℕ) → shownMark (clauses s x) ≤ 1
+marks-few s x = each-clause s (λ (t : ConfirmStep). shownMark t ≤ 1) x (omega arith) (omega arith) (omega arith)
 
 pub same-sizes : (s : Confirm) (x : ℕ) → (clauses s x .state .n ≡ s .n) × (clauses s x .state .need ≡ s .need)
-unfolding clauses
-same-sizes s x = go (not (eqb x (s .input))) (ltb (s .count) (s .need - 1)) where
-  go : (p r : Bool) → (byTests s x p r .state .n ≡ s .n) × (byTests s x p r .state .need ≡ s .need)
-  go true r = (refl, refl)
-  go false true = (refl, refl)
-  go false false = (refl, refl)
+same-sizes s x = each-clause s (λ (t : ConfirmStep). (t .state .n ≡ s .n) × (t .state .need ≡ s .need)) x (refl, refl) (refl, refl) (refl, refl)

@@ -11,22 +11,18 @@ use lib.ListN.{length, getD}
 use borrow.Author.Tests.{ltb-true, ltb-false, eqb-true, eq-eqb}
 use Rattle.trace.proofs.Rows.{on, tests, row-shown}
 use Rattle.confirm.specs.declared.Confirm.{Confirm}
+use Rattle.confirm.specs.declared.ConfirmStep.{ConfirmStep}
 use Rattle.confirm.specs.Confirm.{fresh, clauses}
 use Rattle.confirm.specs.Run.{leaves, steps, shownMark}
 use Rattle.confirm.specs.Standing.{Standing}
-use Rattle.confirm.proofs.Clauses.{byTests}
+use Rattle.confirm.proofs.Clauses.{byTests, each-clause}
 
 abbrev stands : Confirm → ℕ → Bool
 stands s x = eqb x (s .input)
 
 -- the input is stored
 stored : (s : Confirm) (x : ℕ) → clauses s x .state .input ≡ x
-unfolding clauses
-stored s x = go (stands s x) (ltb (s .count) (s .need - 1)) where
-  go : (p r : Bool) → byTests s x (not p) r .state .input ≡ x
-  go false r = refl
-  go true true = refl
-  go true false = refl
+stored s x = each-clause s (λ (t : ConfirmStep). t .state .input ≡ x) x refl refl refl
 
 stood : (s : Confirm) (xs : List ℕ) (j : ℕ) → j < length xs → getD (tests clauses leaves stands s xs) j false ≡ eqb (getD xs j 0) (getD (s .input ∷ xs) j 0)
 unfolding tests

@@ -1,11 +1,10 @@
 -- Each number of each call is given exactly when its table says so; `Readings` of rules reads the tables out, number by number.
+-- `new` is `from_word` of the default word.
 use mathlib.Core.Path.{_≡_, refl}
 use mathlib.Core.Logic.{_↔_}
 use mathlib.Core.List.{List, []}
-use mathlib.Core.Bool.{Bool, true, false, not}
-use Prim.Native.Nat.{ℕ, _-_}
+use Prim.Native.Nat.{ℕ}
 use lib.ListN.{length}
-use lib.Dec.{ltb, eqb}
 use Rattle.rules.specs.Limits.{badCount, tooLong, outside}
 use Rattle.rules.specs.Table.{Given, numbered}
 use Rattle.rules.specs.Refusals.{makeRows, runRows}
@@ -22,7 +21,7 @@ use Rattle.confirm.specs.declared.ConfirmStep.{ConfirmStep}
 use Rattle.confirm.specs.Answers.{numberOf}
 use Rattle.confirm.specs.Confirm.{clauses, made, notMade, madeOf, rowsOf, notTaken, stepOf}
 use Rattle.confirm.specs.Run.{unequal, answerOf}
-use Rattle.confirm.proofs.Clauses.{byTests}
+use Rattle.confirm.proofs.Clauses.{each-clause}
 
 pub from-word-exactly : (n need word k : ℕ) → (madeOf n need word .refusal ≡ k) ↔ Given k (makeRows (badCount need) n word)
 unfolding madeOf numbered
@@ -30,12 +29,7 @@ from-word-exactly n need word = exactly-when (λ (m : ConfirmMade). m .refusal) 
 
 -- the clauses refuse nothing
 pub none-refused : (s : Confirm) (x : ℕ) → numberOf (clauses s x .answer) ≡ 0
-unfolding clauses
-none-refused s x = go (not (eqb x (s .input))) (ltb (s .count) (s .need - 1)) where
-  go : (p r : Bool) → numberOf (byTests s x p r .answer) ≡ 0
-  go true r = refl
-  go false true = refl
-  go false false = refl
+none-refused s x = each-clause s (λ (t : ConfirmStep). numberOf (t .answer) ≡ 0) x refl refl refl
 
 pub step-exactly : (s : Confirm) (x k : ℕ) → (numberOf (stepOf s x .answer) ≡ k) ↔ Given k (rowsOf s x)
 unfolding stepOf numbered

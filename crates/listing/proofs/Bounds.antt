@@ -7,8 +7,8 @@ use native.Mathlib.Omega.{arith}
 use lib.Dec.{ltb, lit≤}
 use lib.ListN.{length, getD, length-append}
 use borrow.Author.Tests.{ltb-true, ltb-false}
-use Rattle.text.specs.Text.{bytes, placesUpTo, places, line}
-use Rattle.text.proofs.Digits.{decimal-length, hex-length, places-most, places-few, line-length}
+use Rattle.text.specs.Text.{bytes, placesUpTo, places}
+use Rattle.text.proofs.Digits.{decimal-length, places-most, places-few, line-length}
 use Rattle.listing.specs.declared.Kind.{Kind}
 use Rattle.listing.specs.declared.Kind.the-variants.{Confirm, Pair, Reserve}
 use Rattle.listing.specs.Listing.{name, heading, letter, joined, lineAt, listingOf, refusedText, longest}

@@ -43,7 +43,7 @@ pub confirm-tells :
 confirm-tells n s x g e =
     let u = confirmSteps.sound-next n s x g e in
     let few = count-range (confirm.clauses s x .state .need) (u .counted) in
-    (rw (confirmClauses.shown-stays s x) (below n _ (u .wide) (u .output-in)), confirmClauses.marks-few s x, omega (arith, u .small))
+    (rw (confirmClauses.shown-stays s x) (below n _ (u .wide) (u .output-in)), omega (arith, confirmClauses.marks-few s x), omega (arith, u .small))
 
 pub tuple-tells :
     (n : ℕ) (s : Tuple) (a b : ℕ) → tupleSteps.Sound n s

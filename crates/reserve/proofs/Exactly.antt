@@ -3,7 +3,7 @@
 use mathlib.Core.Path.{_≡_, refl}
 use mathlib.Core.Logic.{_↔_}
 use mathlib.Core.List.{List, [], zip}
-use mathlib.Core.Bool.{true, false, _||_}
+use mathlib.Core.Bool.{false, _||_}
 use Prim.Native.Nat.{ℕ}
 use lib.ListN.{length}
 use Rattle.rules.specs.Limits.{badCount, tooLong, differ}
@@ -18,13 +18,12 @@ use Rattle.trace.specs.declared.RunAnswer.the-variants.{Done}
 use Rattle.trace.proofs.Runs as runs
 use Rattle.vote.specs.Answers.{numberOf}
 use Rattle.vote.proofs.Exactly.{none-refused as vote-none-refused}
-use Rattle.reserve.specs.declared.Phase.{Phase}
-use Rattle.reserve.specs.declared.Phase.the-variants.{Primary, TakingOver, Reserve as Reserved}
 use Rattle.reserve.specs.declared.Reserve.{Reserve}
 use Rattle.reserve.specs.declared.ReserveMade.{ReserveMade}
 use Rattle.reserve.specs.declared.ReserveStep.{ReserveStep}
-use Rattle.reserve.specs.Reserve.{inPhase, clauses, made, notMade, madeOf, rowsOf, notTaken, stepOf}
+use Rattle.reserve.specs.Reserve.{clauses, made, notMade, madeOf, rowsOf, notTaken, stepOf}
 use Rattle.reserve.specs.Run.{samplesOf, unequal, answerOf}
+use Rattle.reserve.proofs.Clauses.{either-pair}
 
 pub from-word-exactly : (n need word k : ℕ) → (madeOf n need word .refusal ≡ k) ↔ Given k (makeRows (badCount need) n word)
 unfolding madeOf numbered
@@ -32,12 +31,7 @@ from-word-exactly n need word = exactly-when (λ (m : ReserveMade). m .refusal) 
 
 -- the clauses refuse nothing, whichever pair is in force
 pub none-refused : (s : Reserve) (a b c d : ℕ) → numberOf (clauses s a b c d .answer) ≡ 0
-unfolding clauses
-none-refused s a b c d = go (s .phase) where
-  go : (p : Phase) → numberOf (inPhase p (s .vote) a b c d .answer) ≡ 0
-  go Primary = vote-none-refused (s .vote) a b false
-  go TakingOver = vote-none-refused (s .vote) c d true
-  go Reserved = vote-none-refused (s .vote) c d false
+none-refused s a b c d = either-pair s ((a, b), (c, d)) (λ (t : ReserveStep). numberOf (t .answer) ≡ 0) (vote-none-refused (s .vote) a b false) (vote-none-refused (s .vote) c d)
 
 pub step-exactly : (s : Reserve) (a b c d k : ℕ) → (numberOf (stepOf s a b c d .answer) ≡ k) ↔ Given k (rowsOf s a b c d)
 unfolding stepOf numbered

@@ -22,6 +22,7 @@ use Rattle.reserve.specs.declared.Phase.the-variants.{Primary, TakingOve
 use Rattle.reserve.specs.declared.Reserve.{Reserve}
 use Rattle.reserve.specs.declared.ReserveStep.{ReserveStep}
 use Rattle.reserve.specs.Reserve.{phaseAfter, inPhase, clauses, notTaken, stepOf, rowsOf}
+use Rattle.reserve.proofs.Clauses.{either-pair}
 use Rattle.reserve.specs.Run.{leaves, Sample, stepped, publicStep, steps, publicSteps, leftBy, leftByPublic, shownMark}
 
 -- the three phases in their order
@@ -82,12 +83,9 @@ unfolding stepOf
 unseen-step s x y h a = simp (unseen s x y h (a .reserve), a .inside, a .inside-too, a .reserve)
 
 same-width : (s : Reserve) (x : Sample) → stepped s x .state .vote .n ≡ s .vote .n
-unfolding clauses
-same-width s x = go (s .phase) where
-  go : (p : Phase) → inPhase p (s .vote) (x .0 .0) (x .0 .1) (x .1 .0) (x .1 .1) .state .vote .n ≡ s .vote .n
-  go Primary = vote-sizes (s .vote) (x .0 .0) (x .0 .1) false .0
-  go TakingOver = vote-sizes (s .vote) (x .1 .0) (x .1 .1) true .0
-  go Reserved = vote-sizes (s .vote) (x .1 .0) (x .1 .1) false .0
+same-width s x =
+    either-pair s x (λ (t : ReserveStep). t .state .vote .n ≡ s .vote .n)
+    (vote-sizes (s .vote) (x .0 .0) (x .0 .1) false .0) (λ reset. vote-sizes (s .vote) (x .1 .0) (x .1 .1) reset .0)
 
 -- a state after a hand-over
 record After (n : ℕ) (s : Reserve) : Type 0 where

@@ -1,7 +1,7 @@
 -- A run equals its steps: what an accepted run writes is what the public constructor and steps show, one after the other.
 use mathlib.Core.Path.{_≡_, refl, sym, ap, _∙_}
 use mathlib.Core.List.{List, map}
-use mathlib.Core.Bool.{true, false, _||_}
+use mathlib.Core.Bool.{false, _||_}
 use Prim.Native.Nat.{ℕ}
 use native.Mathlib.Omega.{arith}
 use lib.ListN.{length}
@@ -17,11 +17,11 @@ use Rattle.trace.proofs.Samples.{nowhere}
 use Rattle.trace.proofs.Steps.{agree}
 use Rattle.vote.proofs.Stepwise.{Sound}
 use Rattle.vote.proofs.Stepwise as vote-steps
-use Rattle.reserve.specs.declared.Phase.{Phase}
-use Rattle.reserve.specs.declared.Phase.the-variants.{Primary, TakingOver, Reserve as Reserved}
 use Rattle.reserve.specs.declared.Reserve.{Reserve}
-use Rattle.reserve.specs.Reserve.{fresh, inPhase, clauses, made, notMade, madeOf, stepOf}
+use Rattle.reserve.specs.declared.ReserveStep.{ReserveStep}
+use Rattle.reserve.specs.Reserve.{fresh, made, notMade, madeOf, stepOf}
 use Rattle.reserve.specs.Run.{leaves, Sample, stepped, publicStep, steps, publicSteps, shownWord, shownMark, samplesOf, unequal, answerOf, Ran, Stepwise}
+use Rattle.reserve.proofs.Clauses.{either-pair}
 
 -- on a state whose vote is sound, with words inside the width, the public step is the clauses
 pub step-is-clauses : (n : ℕ) (s : Reserve) (x : Sample) → Sound n (s .vote) → outsideFour n x ≡ false → publicStep s x ≡ stepped s x
@@ -30,15 +30,11 @@ step-is-clauses n s x g e = simp (g .width, g .counted, g .wide, e, le-ltb _ _ (
 
 -- and the clauses leave such a state again
 pub sound-next : (n : ℕ) (s : Reserve) (x : Sample) → Sound n (s .vote) → outsideFour n x ≡ false → Sound n (stepped s x .state .vote)
-unfolding clauses
-sound-next n s x g e = go (s .phase) where
-  units : (outside n (x .0 .0) || outside n (x .0 .1) ≡ false) × (outside n (x .1 .0) || outside n (x .1 .1) ≡ false)
-  units = or-neither (outside n (x .0 .0) || outside n (x .0 .1)) (outside n (x .1 .0) || outside n (x .1 .1)) e
-
-  go : (p : Phase) → Sound n (inPhase p (s .vote) (x .0 .0) (x .0 .1) (x .1 .0) (x .1 .1) .state .vote)
-  go Primary = vote-steps.sound-next n (s .vote) (x .0 .0) (x .0 .1) false g (units .0)
-  go TakingOver = vote-steps.sound-next n (s .vote) (x .1 .0) (x .1 .1) true g (units .1)
-  go Reserved = vote-steps.sound-next n (s .vote) (x .1 .0) (x .1 .1) false g (units .1)
+sound-next n s x g e =
+    let units = or-neither (outside n (x .0 .0) || outside n (x .0 .1)) (outside n (x .1 .0) || outside n (x .1 .1)) e in
+    either-pair s x (λ (t : ReserveStep). Sound n (t .state .vote))
+    (vote-steps.sound-next n (s .vote) (x .0 .0) (x .0 .1) false g (units .0))
+    (λ reset. vote-steps.sound-next n (s .vote) (x .1 .0) (x .1 .1) reset g (units .1))
 
 -- a constructor that refuses nothing makes the fresh state
 pub made-fresh : (n need word : ℕ) → Makes (badCount need) n word → madeOf n need word ≡ made n need word

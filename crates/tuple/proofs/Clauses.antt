@@ -28,31 +28,29 @@ confirmed-as (Held w) = (refl, refl)
 confirmed-as (Refused k) = (refl, refl)
 
 module _ (s : Tuple) (a b : ℕ) where
+  -- what holds of an alarm and of a confirmation holds of the step
+  pub either-way :
+      (P : TupleStep → Type 0) → let v = votersOf s a b in
+      P (alarm s v) → P (confirms v (confirm.clauses (s .confirm) (v .word))) → P (clauses s a b)
+  unfolding clauses
+  either-way P loud quiet = go (not (eqb (votersOf s a b .mask) 0)) where
+    go : (p : Bool) → P (byTest s (votersOf s a b) p)
+    go true = loud
+    go false = quiet
+
   -- the word that is shown is the output that stays, alarm or not
   pub shown-stays : shownWord (clauses s a b) ≡ clauses s a b .state .confirm .output
-  unfolding clauses
-  shown-stays = go (not (eqb (votersOf s a b .mask) 0)) where
-    go : (p : Bool) → let t = byTest s (votersOf s a b) p in shownWord t ≡ t .state .confirm .output
-    go true = refl
-    go false = confirmed-as (confirm.clauses (s .confirm) (votersOf s a b .word) .answer) .0 ∙ confirm-stays (s .confirm) (votersOf s a b .word)
+  shown-stays =
+      either-way (λ (t : TupleStep). shownWord t ≡ t .state .confirm .output) refl
+      (confirmed-as (confirm.clauses (s .confirm) (votersOf s a b .word) .answer) .0 ∙ confirm-stays (s .confirm) (votersOf s a b .word))
 
   pub marks-few : shownMark (clauses s a b) ≤ 2
-  unfolding clauses
-  marks-few = go (not (eqb (votersOf s a b .mask) 0)) where
-    go : (p : Bool) → shownMark (byTest s (votersOf s a b) p) ≤ 2
-    go true = omega arith
-    go false = rw (confirmed-as (confirm.clauses (s .confirm) (votersOf s a b .word) .answer) .1) (confirm-marks (s .confirm) (votersOf s a b .word))
+  marks-few =
+      either-way (λ (t : TupleStep). shownMark t ≤ 2) (omega arith)
+      (rw (confirmed-as (confirm.clauses (s .confirm) (votersOf s a b .word) .answer) .1) (omega (arith, confirm-marks (s .confirm) (votersOf s a b .word))))
 
   pub same-sizes : (width (clauses s a b .state) ≡ width s) × (voteNeed (clauses s a b .state) ≡ voteNeed s)
-  unfolding clauses
-  same-sizes = go (not (eqb (votersOf s a b .mask) 0)) where
-    go : (p : Bool) → let t = byTest s (votersOf s a b) p in (width (t .state) ≡ width s) × (voteNeed (t .state) ≡ voteNeed s)
-    go true = (refl, refl)
-    go false = confirm-sizes (s .confirm) (votersOf s a b .word)
+  same-sizes = either-way (λ (t : TupleStep). (width (t .state) ≡ width s) × (voteNeed (t .state) ≡ voteNeed s)) (refl, refl) (confirm-sizes (s .confirm) (votersOf s a b .word))
 
   pub voters-left : (clauses s a b .state .agreed ≡ votersOf s a b .word) × (clauses s a b .state .counts ≡ votersOf s a b .counts)
-  unfolding clauses
-  voters-left = go (not (eqb (votersOf s a b .mask) 0)) where
-    go : (p : Bool) → let t = byTest s (votersOf s a b) p in (t .state .agreed ≡ votersOf s a b .word) × (t .state .counts ≡ votersOf s a b .counts)
-    go true = (refl, refl)
-    go false = (refl, refl)
+  voters-left = either-way (λ (t : TupleStep). (t .state .agreed ≡ votersOf s a b .word) × (t .state .counts ≡ votersOf s a b .counts)) (refl, refl) (refl, refl)

@@ -3,9 +3,8 @@
 use mathlib.Core.Path.{_≡_, refl}
 use mathlib.Core.Logic.{_↔_}
 use mathlib.Core.List.{List, [], zip}
-use mathlib.Core.Bool.{Bool, true, false, not, _||_}
+use mathlib.Core.Bool.{_||_}
 use Prim.Native.Nat.{ℕ}
-use lib.Dec.{eqb}
 use lib.ListN.{length}
 use Rattle.rules.specs.Limits.{badCount, tooLong, differ}
 use Rattle.rules.specs.Table.{Given, LowestOf, numbered, rising}
@@ -27,7 +26,7 @@ use Rattle.tuple.specs.declared.TupleStep.{TupleStep}
 use Rattle.tuple.specs.Answers.{numberOf}
 use Rattle.tuple.specs.Tuple.{votersOf, confirmedAs, clauses, made, notMade, madeOf, rowsOf, notTaken, stepOf}
 use Rattle.tuple.specs.Run.{unequal, answerOf}
-use Rattle.tuple.proofs.Clauses.{byTest}
+use Rattle.tuple.proofs.Clauses.{either-way}
 
 pub from-word-exactly : (n need word k : ℕ) → (madeOf n need word .refusal ≡ k) ↔ Given k (makeRows (badCount need) n word)
 unfolding madeOf numbered
@@ -40,11 +39,7 @@ same-number (Refused k) = refl
 
 -- the clauses refuse nothing
 pub none-refused : (s : Tuple) (a b : ℕ) → numberOf (clauses s a b .answer) ≡ 0
-unfolding clauses
-none-refused s a b = go (not (eqb (votersOf s a b .mask) 0)) where
-  go : (p : Bool) → numberOf (byTest s (votersOf s a b) p .answer) ≡ 0
-  go true = refl
-  go false = rw same-number (confirm-none-refused (s .confirm) (votersOf s a b .word))
+none-refused s a b = either-way s a b (λ (t : TupleStep). numberOf (t .answer) ≡ 0) refl (rw same-number (confirm-none-refused (s .confirm) (votersOf s a b .word)))
 
 -- 1, 2, 6, 7 and 8
 pub step-exactly : (s : Tuple) (a b k : ℕ) → (numberOf (stepOf s a b .answer) ≡ k) ↔ Given k (rowsOf s a b)

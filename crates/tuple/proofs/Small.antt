@@ -1,17 +1,17 @@
 -- What a signal's voter gives is a bit, so what is put together from them is a word inside the width. Fresh counts are zero.
 use mathlib.Core.Path.{_≡_, refl}
 use mathlib.Core.List.{List}
-use mathlib.Core.Bool.{Bool, true, false}
-use Prim.Native.Nat.{ℕ, zero, suc, _-_, _<_, _^_}
-use lib.Dec.{ltb, eqb, lit<}
+use mathlib.Core.Bool.{false}
+use Prim.Native.Nat.{ℕ, zero, suc, _<_, _^_}
+use lib.Dec.{lit<}
 use lib.ListN.{getD, replicate}
 use Rattle.rules.specs.Bits.{bit}
 use Rattle.rules.specs.Signals.{asWord}
 use Rattle.rules.proofs.Signals.{bit-small, word-small}
-use Rattle.vote.specs.Vote as vote
 use Rattle.vote.specs.declared.VoteAnswer.{VoteAnswer}
+use Rattle.vote.specs.declared.VoteStep.{VoteStep}
 use Rattle.vote.specs.declared.VoteAnswer.the-variants.{Agreed, Held, Alarm, Refused}
-use Rattle.vote.proofs.Clauses.{byTests}
+use Rattle.vote.proofs.Clauses.{each-clause}
 use Rattle.tuple.specs.Tuple.{voterOf, signalVote, alarmBit}
 
 pub zeros : (k i : ℕ) → _≡_ {A = ℕ} (getD (replicate k 0) i 0) 0
@@ -27,12 +27,9 @@ alarm-small (Refused k) = lit< tt
 
 module _ (need agreed : ℕ) (counts : List ℕ) (a b : ℕ) where
   pub word-bit-small : (i : ℕ) → signalVote need agreed counts a b i .state .word < 2
-  unfolding vote.clauses
-  word-bit-small i = go (eqb (bit i a) (bit i b)) (ltb (getD counts i 0) (need - 1)) where
-    go : (p r : Bool) → byTests (voterOf need agreed (getD counts i 0) i) (bit i a) p false r .state .word < 2
-    go true r = bit-small i a
-    go false true = bit-small i agreed
-    go false false = bit-small i agreed
+  word-bit-small i =
+      let kept = bit-small i agreed in
+      each-clause (voterOf need agreed (getD counts i 0) i) (λ (t : VoteStep). t .state .word < 2) (bit i a) (bit i b) false (bit-small i a) kept kept kept
 
   pub words-small : (n : ℕ) → asWord n (λ i. signalVote need agreed counts a b i .state .word) < 2 ^ n
   words-small = word-small (λ i. signalVote need agreed counts a b i .state .word) word-bit-small

@@ -1,9 +1,9 @@
 -- A state that a step takes: the clauses leave such a state again, number 8 is never given, and a fresh state is one.
 use mathlib.Core.Path.{_≡_, refl}
-use mathlib.Core.Bool.{Bool, true, false, not}
+use mathlib.Core.Bool.{Bool, true, false}
 use Prim.Native.Nat.{ℕ, _-_, _≤_, _<_}
 use native.Mathlib.Omega.{arith}
-use lib.Dec.{ltb, eqb}
+use lib.Dec.{ltb}
 use lib.ListN.{getD, replicate}
 use borrow.Author.Tests.{le-ltb, lt-ltb, ltb-true, ltb-false}
 use Rattle.rules.specs.Bits.{bit}
@@ -17,8 +17,9 @@ use Rattle.confirm.proofs.Stepwise as confirmed
 use Rattle.vote.proofs.Clauses.{same-sizes as vote-sizes}
 use Rattle.vote.proofs.Stepwise as votes
 use Rattle.tuple.specs.declared.Tuple.{Tuple}
+use Rattle.tuple.specs.declared.TupleStep.{TupleStep}
 use Rattle.tuple.specs.Tuple.{width, voteNeed, fresh, voter, signalVote, votersOf, badPlace, badPlaces, badState, clauses}
-use Rattle.tuple.proofs.Clauses.{byTest}
+use Rattle.tuple.proofs.Clauses.{either-way}
 use Rattle.tuple.proofs.Small.{words-small, zeros}
 
 pub record Sound (n : ℕ) (s : Tuple) : Type 0 where
@@ -72,16 +73,14 @@ module _ (n : ℕ) (s : Tuple) (g : Sound n s) where
 
   -- the clauses leave such a state again
   pub sound-next : (a b : ℕ) → Sound n (clauses s a b .state)
-  unfolding clauses
-  sound-next a b = go (not (eqb (votersOf s a b .mask) 0)) where
-    go : (p : Bool) → Sound n (byTest s (votersOf s a b) p .state)
-    go true = record { confirm-sound = g .confirm-sound; places = places-next a b; agreed-in = word-next a b }
-    go false =
-        record {
-          confirm-sound = confirmed.sound-next n (s .confirm) (votersOf s a b .word) (g .confirm-sound) (word-next a b);
-          places = rw (confirm-sizes (s .confirm) (votersOf s a b .word) .1) (places-next a b);
-          agreed-in = word-next a b;
-        }
+  sound-next a b =
+      either-way s a b (λ (t : TupleStep). Sound n (t .state))
+      (record { confirm-sound = g .confirm-sound; places = places-next a b; agreed-in = word-next a b })
+      (record {
+        confirm-sound = confirmed.sound-next n (s .confirm) (votersOf s a b .word) (g .confirm-sound) (word-next a b);
+        places = rw (confirm-sizes (s .confirm) (votersOf s a b .word) .1) (places-next a b);
+        agreed-in = word-next a b;
+      })
 
 -- a fresh state is one
 pub fresh-sound : (n need word : ℕ) → badCount need ≡ false → badWidth n ≡ false → outside n word ≡ false → Sound n (fresh n need word)

@@ -22,6 +22,18 @@ byTests s a equal reset waiting =
     alarm s
 
 module _ (s : Vote) where
+  -- what holds of each clause holds of the step
+  pub each-clause :
+      (P : VoteStep → Type 0) (a b : ℕ) (reset : Bool)
+      → P (agreed s a) → P (held s 0) → P (held s (s .count + 1)) → P (alarm s) → P (clauses s a b reset)
+  unfolding clauses
+  each-clause P a b reset u v w x = go (eqb a b) reset (ltb (s .count) (s .need - 1)) where
+    go : (p q r : Bool) → P (byTests s a p q r)
+    go true q r = u
+    go false true r = v
+    go false false true = w
+    go false false false = x
+
   -- whatever came before, equal words agree
   pub agrees : (a : ℕ) (reset : Bool) → clauses s a a reset .answer ≡ Agreed a
   unfolding clauses
@@ -35,40 +47,17 @@ module _ (s : Vote) where
     go false e = omega arith
 
   pub last-agreed : (a b : ℕ) (reset : Bool) → (shownMark (clauses s a b reset) ≡ 0 → ⊥) → (shownWord (clauses s a b reset) ≡ s .word) × (clauses s a b reset .state .word ≡ s .word)
-  unfolding clauses
-  last-agreed a b reset = go (eqb a b) reset (ltb (s .count) (s .need - 1)) where
-    go :
-        (p q r : Bool) → (shownMark (byTests s a p q r) ≡ 0 → ⊥)
-        → (shownWord (byTests s a p q r) ≡ s .word) × (byTests s a p q r .state .word ≡ s .word)
-    go true q r h = absurd (h refl)
-    go false true r h = (refl, refl)
-    go false false true h = (refl, refl)
-    go false false false h = (refl, refl)
+  last-agreed a b reset =
+      each-clause (λ (t : VoteStep). (shownMark t ≡ 0 → ⊥) → (shownWord t ≡ s .word) × (t .state .word ≡ s .word)) a b reset
+      (λ h. absurd (h refl)) (λ h. (refl, refl)) (λ h. (refl, refl)) (λ h. (refl, refl))
 
   -- the word that is shown is the one that stays
   pub shown-stays : (a b : ℕ) (reset : Bool) → shownWord (clauses s a b reset) ≡ clauses s a b reset .state .word
-  unfolding clauses
-  shown-stays a b reset = go (eqb a b) reset (ltb (s .count) (s .need - 1)) where
-    go : (p q r : Bool) → shownWord (byTests s a p q r) ≡ byTests s a p q r .state .word
-    go true q r = refl
-    go false true r = refl
-    go false false true = refl
-    go false false false = refl
+  shown-stays a b reset = each-clause (λ (t : VoteStep). shownWord t ≡ t .state .word) a b reset refl refl refl refl
 
   pub marks-few : (a b : ℕ) (reset : Bool) → shownMark (clauses s a b reset) ≤ 2
-  unfolding clauses
-  marks-few a b reset = go (eqb a b) reset (ltb (s .count) (s .need - 1)) where
-    go : (p q r : Bool) → shownMark (byTests s a p q r) ≤ 2
-    go true q r = omega arith
-    go false true r = omega arith
-    go false false true = omega arith
-    go false false false = omega arith
+  marks-few a b reset = each-clause (λ (t : VoteStep). shownMark t ≤ 2) a b reset (omega arith) (omega arith) (omega arith) (omega arith)
 
   pub same-sizes : (a b : ℕ) (reset : Bool) → (clauses s a b reset .state .n ≡ s .n) × (clauses s a b reset .state .need ≡ s .need)
-  unfolding clauses
-  same-sizes a b reset = go (eqb a b) reset (ltb (s .count) (s .need - 1)) where
-    go : (p q r : Bool) → (byTests s a p q r .state .n ≡ s .n) × (byTests s a p q r .state .need ≡ s .need)
-    go true q r = (refl, refl)
-    go false true r = (refl, refl)
-    go false false true = (refl, refl)
-    go false false false = (refl, refl)
+  same-sizes a b reset =
+      each-clause (λ (t : VoteStep). (t .state .n ≡ s .n) × (t .state .need ≡ s .need)) a b reset (refl, refl) (refl, refl) (refl, refl) (refl, refl)

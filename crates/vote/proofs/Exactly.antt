@@ -3,10 +3,9 @@
 use mathlib.Core.Path.{_≡_, refl}
 use mathlib.Core.Logic.{_↔_}
 use mathlib.Core.List.{List, [], zip}
-use mathlib.Core.Bool.{Bool, true, false, _||_}
-use Prim.Native.Nat.{ℕ, _-_}
+use mathlib.Core.Bool.{Bool, _||_}
+use Prim.Native.Nat.{ℕ}
 use lib.ListN.{length}
-use lib.Dec.{ltb, eqb}
 use Rattle.rules.specs.Limits.{badCount, tooLong, differ}
 use Rattle.rules.specs.Table.{Given, numbered}
 use Rattle.rules.specs.Refusals.{makeRows, runRows}
@@ -23,7 +22,7 @@ use Rattle.vote.specs.declared.VoteStep.{VoteStep}
 use Rattle.vote.specs.Answers.{numberOf}
 use Rattle.vote.specs.Vote.{clauses, made, notMade, madeOf, rowsOf, notTaken, stepOf}
 use Rattle.vote.specs.Run.{unequal, answerOf}
-use Rattle.vote.proofs.Clauses.{byTests}
+use Rattle.vote.proofs.Clauses.{each-clause}
 
 pub from-word-exactly : (n need word k : ℕ) → (madeOf n need word .refusal ≡ k) ↔ Given k (makeRows (badCount need) n word)
 unfolding madeOf numbered
@@ -31,13 +30,7 @@ from-word-exactly n need word = exactly-when (λ (m : VoteMade). m .refusal) (ma
 
 -- the clauses refuse nothing
 pub none-refused : (s : Vote) (a b : ℕ) (reset : Bool) → numberOf (clauses s a b reset .answer) ≡ 0
-unfolding clauses
-none-refused s a b reset = go (eqb a b) reset (ltb (s .count) (s .need - 1)) where
-  go : (p q r : Bool) → numberOf (byTests s a p q r .answer) ≡ 0
-  go true q r = refl
-  go false true r = refl
-  go false false true = refl
-  go false false false = refl
+none-refused s a b reset = each-clause s (λ (t : VoteStep). numberOf (t .answer) ≡ 0) a b reset refl refl refl refl
 
 pub step-exactly : (s : Vote) (a b : ℕ) (reset : Bool) (k : ℕ) → (numberOf (stepOf s a b reset .answer) ≡ k) ↔ Given k (rowsOf s a b)
 unfolding stepOf numbered

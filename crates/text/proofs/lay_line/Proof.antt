@@ -1,5 +1,4 @@
 -- `text::lay_line` meets its contract: each piece leaves the room for those after it, and one after the other they are the line.
-use mathlib.Core.Path.{sym, _∙_}
 use Prim.Native.Nat.{_+_, _≤_}
 use native.Mathlib.Omega.{arith}
 use borrow.Author.Needs.{needs}

@@ -1,5 +1,5 @@
 -- `sheet::letter` meets its contract: the code's choices are the definition's.
-use mathlib.Core.Path.{_≡_, _∙_}
+use mathlib.Core.Path.{_∙_}
 use mathlib.Core.Logic.{⊎-elim}
 use borrow.Author.Tests.{eq-eqb, ne-eqb}
 use Rattle.listing.proofs.sheet.letter.Statement.{statement}
