@@ -10,8 +10,8 @@ use Rattle.confirm.specs.Confirm.{clauses}
 use Rattle.rules.specs.Signals.{asList, someBelow}
 use Rattle.recording.specs.Fields.{fieldsOf}
 use Rattle.recording.specs.Recording.{readOf}
-use Rattle.text.specs.Text.{bytes, digits, placesUpTo, glyph}
-use Rattle.listing.specs.Listing.{textOf, listingOf, heading, line, joined}
+use Rattle.text.specs.Text.{bytes, digits, placesUpTo, glyph, line}
+use Rattle.listing.specs.Listing.{textOf, listingOf, heading, joined}
 use Rattle.sizing.specs.Sizing.{sizingOf}
 use Rattle.threshold.specs.Threshold.{thresholdOf}
 use Rattle.vote.specs.Vote.{clauses as vote-clauses}
