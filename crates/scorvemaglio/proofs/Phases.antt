@@ -1,7 +1,7 @@
 -- A reserve state from C: the number of a step is the table's, with a phase that is none of the three as one more reason for 7.
 use Prim.Native.Nat.{ℕ}
-use mathlib.Core.Path.{_≡_, refl, sym, _∙_}
-use mathlib.Core.List.{List}
+use mathlib.Core.Path.{_≡_, refl, sym, ap, _∙_}
+use mathlib.Core.List.{List, [], _∷_}
 use mathlib.Core.Logic.{_↔_}
 use mathlib.Core.Bool.{Bool, true, false, not, _&&_, _||_}
 use lib.Dec.{eqb}
@@ -11,13 +11,15 @@ use Rattle.rules.specs.Table.{Row, first, Given, numbered}
 use Rattle.rules.specs.Refusals.{stepRows}
 use Rattle.rules.proofs.Tables.{or-neither, exactly}
 use Rattle.rules.proofs.OneTest.{one-reason-more, one-test-more, refused-number}
+use Rattle.vote.specs.Answers.{markOf}
 use Rattle.vote.specs.Vote.{badState}
 use Rattle.reserve.specs.Reserve.{clauses, stepOf}
 use Rattle.reserve.specs.declared.Reserve.{Reserve}
+use Rattle.reserve.proofs.Clauses.{shown-stays}
 use Rattle.reserve.proofs.Exactly.{step-number}
 use Rattle.reserve.proofs.OneTest.{union, union-outside, admitted, one-test, ways}
 use Rattle.scorvemaglio.specs.States.{reserveOf, noPhase}
-use Rattle.scorvemaglio.specs.Voters.{reserveNumber}
+use Rattle.scorvemaglio.specs.Voters.{reserveNumber, shownNumbers, keptNumbers}
 
 -- refused is what has no phase or is not admitted
 either : (p q : Bool) → not (p || not q) ≡ q && not p
@@ -63,3 +65,7 @@ module _ (state : List ℕ) (a b c d : ℕ) where
 
   pub taken-as : refused ≡ false → (reserveNumber state (stepOf s a b c d) ≡ 0) × (clauses s a b c d ≡ stepOf s a b c d)
   taken-as e = (number ∙ eqb-true _ _ (rw (← tested, e)), ways s a b c d .0 (not-false _ (or-neither (noPhase state) (not (admitted s a b c d)) e .1)))
+
+  -- what the clauses show is the word that they leave in the state
+  pub kept-as-shown : keptNumbers (clauses s a b c d) ≡ shownNumbers (clauses s a b c d)
+  kept-as-shown = ap (λ (w : ℕ). w ∷ markOf (clauses s a b c d .answer) ∷ clauses s a b c d .pair ∷ []) (sym (shown-stays s ((a, b), (c, d))))

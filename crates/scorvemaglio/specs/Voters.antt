@@ -47,5 +47,9 @@ reserveNumber state t = orElse (vote.numberOf (t .answer)) 7 (noPhase state)
 abbrev pub shownNumbers : ReserveStep → List ℕ
 shownNumbers t = vote.wordOf (t .answer) ∷ vote.markOf (t .answer) ∷ t .pair ∷ []
 
+-- the same, its word taken from the state that the step leaves
+abbrev pub keptNumbers : ReserveStep → List ℕ
+keptNumbers t = t .state .vote .word ∷ vote.markOf (t .answer) ∷ t .pair ∷ []
+
 abbrev pub StepsReserve : ReserveStep → List ℕ → List ℕ → ℕ → List ℕ → List ℕ → Type 0
 StepsReserve t state = Steps (reserveNumber state t) (reserveNumbers (t .state)) (shownNumbers t) state

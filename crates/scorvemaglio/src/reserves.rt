@@ -9,7 +9,7 @@ ghost use Rattle.rules.specs.Limits.{defaultWord};
 ghost use Rattle.reserve.specs.Reserve.{madeOf, stepOf};
 ghost use Rattle.scorvemaglio.specs.Runs.{RunsReserve};
 ghost use Rattle.scorvemaglio.specs.States.{phaseOf, phaseNumber, reserveOf, reserveNumbers};
-ghost use Rattle.scorvemaglio.specs.Voters.{MakesReserve, StepsReserve, shownNumbers};
+ghost use Rattle.scorvemaglio.specs.Voters.{MakesReserve, StepsReserve, keptNumbers};
 
 fn phase_of(p: u32) -> Phase
     ensures { λ r. ⌜ r ≡ phaseOf p ⌝ }
@@ -71,14 +71,17 @@ fn put_made(state: &mut [u32; 5], made: ReserveMade) -> u32
     0
 }
 
-// The state that a step leaves and what it shows are written.
+// The state that a step leaves and what it shows are written. The word shown is the one that its vote keeps: so it need not be
+// taken out of the answer.
 fn put_step(state: &mut [u32; 5], answer: &mut [u32; 3], taken: ReserveStep)
     ensures { λ _. ⌜ now (state .exit) ≡ reserveNumbers (taken .state) ⌝ }
-    ensures { λ _. ⌜ now (answer .exit) ≡ shownNumbers taken ⌝ }
+    ensures { λ _. ⌜ now (answer .exit) ≡ keptNumbers taken ⌝ }
 {
+    let left = taken.state;
+    let vote = left.vote;
     let shown = taken.answer;
-    *state = reserve_numbers(taken.state);
-    *answer = [shown.word(), shown.mark() as u32, taken.pair];
+    *state = reserve_numbers(left);
+    *answer = [vote.word, shown.mark() as u32, taken.pair];
 }
 
 #[no_mangle]

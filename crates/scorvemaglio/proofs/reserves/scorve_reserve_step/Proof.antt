@@ -5,7 +5,7 @@ use denote.Ref.{now}
 use Rattle.reserve.proofs.OneTest.{admitted}
 use Rattle.scorvemaglio.specs.States.{reserveOf}
 use Rattle.scorvemaglio.proofs.Laws.{not-taken, taken}
-use Rattle.scorvemaglio.proofs.Phases.{refused-as, taken-as}
+use Rattle.scorvemaglio.proofs.Phases.{refused-as, taken-as, kept-as-shown}
 use Rattle.scorvemaglio.proofs.reserves.scorve_reserve_step.Statement.{statement}
 use Rattle.scorvemaglio.proofs.reserves.scorve_reserve_step.Tie as tie
 
@@ -28,7 +28,8 @@ returns-2 c =
     let made = asked .before .before .before in
     let x = made .before .before .args in
     let t = taken-as (now (x .state)) (x .a) (x .b) (x .c) (x .d) (rw (← found asked) (left .if1 .left)) in
-    rw (c .put-step .ensures .0, c .put-step .ensures .1, c .before .clauses .ensures, made .reserve-of .ensures, t .1) (taken refl (t .0))
+    let kept = kept-as-shown (now (x .state)) (x .a) (x .b) (x .c) (x .d) in
+    rw (c .put-step .ensures .0, c .put-step .ensures .1, c .before .clauses .ensures, made .reserve-of .ensures, kept, t .1) (taken refl (t .0))
 
 pub scorve-reserve-step-spec : {M : Type 1} → statement M
 scorve-reserve-step-spec =
