@@ -1,12 +1,14 @@
 -- What the clauses of a confirmation keep: the width, N, and as the output the word that is shown.
-use mathlib.Core.Path.{_≡_, refl}
+use mathlib.Core.Path.{_≡_, refl, sym, ap}
 use mathlib.Core.Bool.{Bool, true, false, not}
 use Prim.Native.Nat.{ℕ, _+_, _-_, _≤_}
 use native.Mathlib.Omega.{arith}
 use lib.Dec.{ltb, eqb}
+use borrow.Author.Tests.{eq-eqb}
 use Rattle.rules.specs.Choose.{if_then_else_}
 use Rattle.confirm.specs.declared.Confirm.{Confirm}
 use Rattle.confirm.specs.declared.ConfirmStep.{ConfirmStep}
+use Rattle.confirm.specs.declared.ConfirmAnswer.the-variants.{Confirmed}
 use Rattle.confirm.specs.Confirm.{held, confirmed, clauses}
 use Rattle.confirm.specs.Run.{shownWord, shownMark}
 
@@ -34,3 +36,12 @@ marks-few s x = each-clause s (λ (t : ConfirmStep). shownMark t ≤ 1) x (omega
 
 pub same-sizes : (s : Confirm) (x : ℕ) → (clauses s x .state .n ≡ s .n) × (clauses s x .state .need ≡ s .need)
 same-sizes s x = each-clause s (λ (t : ConfirmStep). (t .state .n ≡ s .n) × (t .state .need ≡ s .need)) x (refl, refl) (refl, refl) (refl, refl)
+
+-- a word that is confirmed already is confirmed again, and the state is as it was
+pub settled :
+    (s : Confirm) → ltb (s .count) (s .need - 1) ≡ false → s .output ≡ s .input
+    → (x : ℕ) → s .input ≡ x → clauses s x ≡ record { state = s; answer = Confirmed (s .input) }
+unfolding clauses
+settled s full same x e =
+    rw (← e, eq-eqb (s .input) (s .input) refl, full)
+    (ap (λ (o : ℕ). record { state = record { n = s .n; need = s .need; input = s .input; output = o; count = s .count }; answer = Confirmed (s .input) }) (sym same))

@@ -1,12 +1,12 @@
 // Confirmation of a tuple (document 000, definition 6): a state, one step on it, and a run over a lent trace.
+mod blocks;
+
 use trace::RunAnswer;
 ghost use mathlib.Core.Path.{_≡_};
-ghost use mathlib.Core.List.{map};
-ghost use lib.ListN.{length};
 ghost use Rattle.rules.specs.Limits.{defaultWord};
 ghost use Rattle.confirm.specs.Answers.{numberOf, wordOf, markOf};
 ghost use Rattle.confirm.specs.Confirm.{fresh, held, confirmed, clauses, madeOf, stepOf};
-ghost use Rattle.confirm.specs.Run.{steps, shownWord, shownMark, shownCount, Ran};
+ghost use Rattle.confirm.specs.Run.{Ran};
 
 // The state of a confirmation, with its width n and its count N (`need`).
 pub struct Confirm {
@@ -168,34 +168,6 @@ impl Confirm {
     }
 }
 
-// A step for each sample, from a state: what each shows is written.
-fn write_steps(
-    start: Confirm,
-    samples: &[u32],
-    words: &mut [u32],
-    marks: &mut [u8],
-    counts: &mut [u32],
-)
-    requires { ⌜ length (now samples) ≡ length (now words) ⌝ }
-    requires { ⌜ length (now samples) ≡ length (now marks) ⌝ }
-    requires { ⌜ length (now samples) ≡ length (now counts) ⌝ }
-    ensures { λ _. ⌜ now (words .exit) ≡ map shownWord (steps start (now (samples .entry))) ⌝ }
-    ensures { λ _. ⌜ now (marks .exit) ≡ map shownMark (steps start (now (samples .entry))) ⌝ }
-    ensures { λ _. ⌜ now (counts .exit) ≡ map shownCount (steps start (now (samples .entry))) ⌝ }
-{
-    let mut state = start;
-    let mut i = 0;
-    while i < samples.len() {
-        let taken = state.clauses(samples[i]);
-        let answer = taken.answer;
-        state = taken.state;
-        words[i] = answer.word();
-        marks[i] = answer.mark();
-        counts[i] = state.count;
-        i += 1;
-    }
-}
-
 // A run over a lent trace, from a fresh state.
 pub fn run(
     n: u32,
@@ -215,6 +187,6 @@ pub fn run(
     let RunAnswer::Done = answer else {
         return answer;
     };
-    write_steps(Confirm::fresh(n, need, word), samples, words, marks, counts);
+    blocks::write_steps(Confirm::fresh(n, need, word), samples, words, marks, counts);
     RunAnswer::Done
 }

@@ -6,7 +6,7 @@ use Prim.Native.Nat.{ℕ, suc, _+_, _-_, _<_, _≤_}
 use native.Mathlib.Numerals.{add-one}
 use native.Mathlib.Omega.{arith}
 use lib.Dec.{eqb}
-use lib.ListN.{length, getD, take, drop, set, length-drop, length-set, drop-of-length-le}
+use lib.ListN.{length, getD, take, drop, set, length-set, drop-of-length-le}
 use lib.Seq.{drop-cons, drop-length, take-all, take-suc-set}
 use borrow.Rule.Slice.PartAt.{part-to-end}
 use borrow.Rule.Slice.PartMut.{putMid, post-is}
@@ -127,9 +127,6 @@ module _
 -- the rest of a slice is put in the place of all that stands from k on
 put-rest : (k : ℕ) (l m : List ℕ) → k ≤ length l → putMid k (length l - k) l m ≡ take k l ++ m
 put-rest k l m h = rw (post-is k (length l) l h, drop-length, append-nil)
-
-pub rests-alike : (k : ℕ) (l m : List ℕ) → length l ≡ length m → length (take (length l - k) (drop k l)) ≡ length (take (length m - k) (drop k m))
-rests-alike k l m e = rw (part-to-end l k, part-to-end m k, length-drop k l, length-drop k m, e)
 
 -- the step t on sample `over` is stored, and the steps from there on fill the rest of the slice
 module _ (f : VoteStep → ℕ) (s : Vote) (over : ℕ) (c d l : List ℕ) (h : over < length c) (cd : length c ≡ length d) (cl : length c ≡ length l) where

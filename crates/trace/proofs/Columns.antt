@@ -1,9 +1,9 @@
 -- Samples of two columns, and of four, taken together: as many as a column has, and each made of the columns' own.
 use mathlib.Core.Path.{_≡_, refl, ap, _∙_}
 use mathlib.Core.List.{List, [], _∷_, zip, zipWith}
-use Prim.Native.Nat.{ℕ, zero, suc, _<_}
+use Prim.Native.Nat.{ℕ, zero, suc, _-_, _<_}
 use native.Mathlib.Omega.{arith}
-use lib.ListN.{length, getD, drop}
+use lib.ListN.{length, getD, take, drop, length-take, length-drop}
 
 pub zip-length : {X Y : Type 0} (us : List X) (vs : List Y) → length us ≡ length vs → length (zip us vs) ≡ length us
 unfolding zip zipWith
@@ -36,3 +36,10 @@ module _ (a b c d : List ℕ) (ab : length a ≡ length b) (ac : length a ≡ le
 
   pub four-length : length (zip (zip a b) (zip c d)) ≡ length a
   four-length = zip-length (zip a b) (zip c d) pairs-alike ∙ zip-length a b ab
+
+-- parts from k on of two slices of one length are of one length: the next j places of both, and the rest of both
+pub parts-alike : (k j : ℕ) (l m : List ℕ) → length l ≡ length m → length (take j (drop k l)) ≡ length (take j (drop k m))
+parts-alike k j l m e = rw (length-take j (drop k l), length-take j (drop k m), length-drop k l, length-drop k m, e)
+
+pub rests-alike : (k : ℕ) (l m : List ℕ) → length l ≡ length m → length (take (length l - k) (drop k l)) ≡ length (take (length m - k) (drop k m))
+rests-alike k l m e = rw e (parts-alike k (length m - k) l m e)

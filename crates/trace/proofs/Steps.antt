@@ -4,7 +4,7 @@ use mathlib.Core.Path.{_≡_, refl, ap}
 use mathlib.Core.List.{List, [], _∷_, _++_, map}
 use Prim.Native.Nat.{ℕ, zero, suc, _<_}
 use native.Mathlib.Omega.{arith}
-use lib.ListN.{length, getD}
+use lib.ListN.{length, getD, replicate}
 use Rattle.trace.specs.Trace.{trace, left}
 
 module _ {S X T : Type 0} (core step : S → X → T) (next : T → S) (Good : S → Type 0) where
@@ -77,3 +77,15 @@ module _ {S X T S′ X′ T′ : Type 0} (step : S → X → T) (next : T → S)
   follows shown shown′ same shows keeps s [] g = refl
   follows {A} shown shown′ same shows keeps s (x ∷ xs) g =
       rw (← same s x g, ← shows s x g) (ap (λ (l : List A). shown (step s x) ∷ l) (follows shown shown′ same shows keeps (next (step s x)) xs (keeps s x g)))
+
+-- where every sample gives the same step, and that step leaves the state as it was, the run is that step all along
+module _ {S X T : Type 0} (step : S → X → T) (next : T → S) (s : S) (t : T) (back : next t ≡ s) (d : X) where
+  pub stands : {A : Type 0} (f : T → A) (xs : List X) → ((i : ℕ) → i < length xs → step s (getD xs i d) ≡ t) → map f (trace step next s xs) ≡ replicate (length xs) (f t)
+  unfolding trace
+  stands f [] same = refl
+  stands {A} f (x ∷ xs) same = rw (same 0 (omega arith), back) (ap (λ (l : List A). f t ∷ l) (stands f xs (λ i h. same (suc i) (omega arith))))
+
+  pub stands-left : (xs : List X) → ((i : ℕ) → i < length xs → step s (getD xs i d) ≡ t) → left step next s xs ≡ s
+  unfolding left
+  stands-left [] same = refl
+  stands-left (x ∷ xs) same = rw (same 0 (omega arith), back) (stands-left xs (λ i h. same (suc i) (omega arith)))

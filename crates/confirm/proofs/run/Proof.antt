@@ -27,7 +27,7 @@ alike c = answer-done _ _ _ _ _ outside _ (sym (answered (c .before .before)) �
 write-steps-requires : tie.Need-write-steps-requires
 write-steps-requires c κs =
     let p = or-each (or-each (same _ _) (same _ _)) (same _ _) (alike (c .before .before .before .before)) in
-    (p .0 .0, (p .0 .1, p .1))
+    (p .0 .0, p .0 .1, p .1)
 
 returns-2 : tie.Need-returns-2
 returns-2 c =
@@ -36,9 +36,9 @@ returns-2 c =
     let ran = f .before .enum-told .given .1 in
     record {
       answered = sym ran ∙ answered (f .before .before .before);
-      words-after = rw (← f .fresh .ensures) (wrote .ensures .0);
-      marks-after = rw (← f .fresh .ensures) (wrote .ensures .1 .0);
-      counts-after = rw (← f .fresh .ensures) (wrote .ensures .1 .1);
+      words-after = rw (← f .fresh .ensures) (wrote .ensures .words-shown);
+      marks-after = rw (← f .fresh .ensures) (wrote .ensures .marks-shown);
+      counts-after = rw (← f .fresh .ensures) (wrote .ensures .counts-shown);
     }
 
 pub run-spec : {M : Type 1} → statement M

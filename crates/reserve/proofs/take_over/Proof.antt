@@ -4,9 +4,10 @@ use native.Mathlib.Omega.{arith}
 use Prim.Native.Nat.{_+_}
 use mathlib.Core.Bool.{false}
 use lib.ListN.{set, length-set}
+use Rattle.trace.proofs.Columns.{rests-alike}
 use Rattle.vote.specs.Run.{shownWord, shownMark}
 use Rattle.vote.proofs.Parts.{as-taken, whole-words, whole-marks}
-use Rattle.reserve.proofs.Parts.{rests-alike, handed-over}
+use Rattle.reserve.proofs.Parts.{handed-over}
 use borrow.Author.Needs.{needs}
 use Rattle.reserve.proofs.take_over.Statement.{statement}
 use Rattle.reserve.proofs.take_over.Tie as tie
