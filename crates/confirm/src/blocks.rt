@@ -103,8 +103,8 @@ pub(crate) fn write_steps(
 {
     let mut state = start;
     let mut done = 0;
-    while samples.len() - done >= 16 {
-        let end = done + 16;
+    while samples.len() - done >= 8 {
+        let end = done + 8;
         state = write_block(
             state,
             &samples[done..end],

@@ -28,14 +28,14 @@ write-block-requires : tie.Need-write-block-requires Inv-loop μ-loop
 write-block-requires c κs =
     let at-loop = c .before .before .before .before .before in
     let l = at-loop .loop in
-    let part = parts-alike (l .done) (l .done + 16 - l .done) (at-loop .before .before .before .before .before .args .samples .now) in
+    let part = parts-alike (l .done) (l .done + 8 - l .done) (at-loop .before .before .before .before .before .args .samples .now) in
     (part (l .words) (sym (l .inv .1 .0)), part (l .marks) (sym (l .inv .2 .0)), part (l .counts) (sym (l .inv .3 .0)))
 
 loop-again : tie.Need-loop-again Inv-loop μ-loop
 loop-again c =
     let wrote = c .before .before .before .before .before .before .write-block in
     let l = c .before .before .before .before .before .before .before .before .before .before .before .before .loop in
-    let e = l .done + 16 in
+    let e = l .done + 8 in
     rw (wrote .ensures .0) (
       omega arith,
       part-turn clauses leaves shownWord _ _ _ _ _ e _ (wrote .ensures .1 .words-shown) (omega arith) (omega arith) (l .inv .1),
