@@ -3,26 +3,26 @@
 use mathlib.Core.Path.{_≡_, refl}
 use mathlib.Core.Logic.{_↔_}
 use mathlib.Core.List.{List, [], zip}
-use mathlib.Core.Bool.{false, _||_}
+use mathlib.Core.Bool.{false}
 use Prim.Native.Nat.{ℕ}
-use lib.ListN.{length}
-use Rattle.rules.specs.Limits.{badCount, tooLong, differ}
+use Rattle.rules.specs.Limits.{badCount}
 use Rattle.rules.specs.Table.{first, Given, numbered}
 use Rattle.rules.specs.Refusals.{makeRows, runRows}
 use Rattle.rules.proofs.Readings.{Makes}
 use Rattle.rules.proofs.Tables.{exactly-when, own-number}
 use Rattle.trace.specs.Samples.{somewhere, Smallest, outsideFour}
-use Rattle.trace.specs.Answers.{runNumber, runSample}
+use Rattle.trace.specs.Answers.{runNumber, runSample, longFour, apartFour}
 use Rattle.trace.specs.declared.RunAnswer.{RunAnswer}
 use Rattle.trace.specs.declared.RunAnswer.the-variants.{Done}
 use Rattle.trace.proofs.Runs as runs
 use Rattle.vote.specs.Answers.{numberOf}
+use Rattle.vote.specs.Run.{unequal}
 use Rattle.vote.proofs.Exactly.{none-refused as vote-none-refused}
 use Rattle.reserve.specs.declared.Reserve.{Reserve}
 use Rattle.reserve.specs.declared.ReserveMade.{ReserveMade}
 use Rattle.reserve.specs.declared.ReserveStep.{ReserveStep}
 use Rattle.reserve.specs.Reserve.{clauses, made, notMade, madeOf, rowsOf, notTaken, stepOf}
-use Rattle.reserve.specs.Run.{samplesOf, unequal, answerOf}
+use Rattle.reserve.specs.Run.{samplesOf, answerOf}
 use Rattle.reserve.proofs.Clauses.{either-pair}
 
 pub from-word-exactly : (n need word k : ℕ) → (madeOf n need word .refusal ≡ k) ↔ Given k (makeRows (badCount need) n word)
@@ -48,10 +48,7 @@ module _ (n need word : ℕ) (a b c d words marks : List ℕ) where
 
   pub run-exactly :
       (k : ℕ) → (runNumber answered ≡ k)
-      ↔ Given k (runRows (badCount need) n word
-      (tooLong (length a) || tooLong (length b) || tooLong (length c) || tooLong (length d))
-      (differ (length a) (length b) || differ (length a) (length c) || differ (length a) (length d) || unequal a words marks)
-      (somewhere (outsideFour n) (samplesOf a b c d)))
+      ↔ Given k (runRows (badCount need) n word (longFour a b c d) (apartFour a b c d (unequal a words marks)) (somewhere (outsideFour n) (samplesOf a b c d)))
   run-exactly = runs.answer-exactly _ _ _ _ _ outsideFour (samplesOf a b c d)
 
   -- 6 comes with the smallest sample outside the width, and any other number with sample 0

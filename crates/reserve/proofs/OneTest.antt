@@ -1,5 +1,5 @@
 -- The one test of a reserve step: it is the table's, and decides between the clauses and a refusal.
-use mathlib.Core.Path.{_≡_}
+use mathlib.Core.Path.{_≡_, refl}
 use mathlib.Core.Bool.{Bool, true, false, _||_}
 use Prim.Native.Nat.{ℕ}
 use lib.Bits.{bitOr}
@@ -9,7 +9,6 @@ use Rattle.rules.specs.Table.{first}
 use Rattle.rules.specs.Refusals.{stepRows, admits}
 use Rattle.rules.proofs.OneTest.{admits-exactly, by-one-test}
 use Rattle.rules.proofs.Width.{outside-or}
-use Rattle.vote.specs.Vote.{badState}
 use Rattle.reserve.specs.declared.Reserve.{Reserve}
 use Rattle.reserve.specs.Reserve.{clauses, rowsOf, notTaken, stepOf}
 
@@ -25,9 +24,7 @@ module _ (s : Reserve) (a b c d : ℕ) where
   admitted = let v = s .vote in admits (v .n) (v .need) (v .count) (bitOr (union a b c d) (v .word))
 
   pub one-test : admitted ≡ eqb (first (rowsOf s a b c d)) 0
-  one-test =
-      let v = s .vote in
-      rw (← union-outside (v .n) a b c d) (admits-exactly (v .n) (v .need) (v .count) (union a b c d) (v .word))
+  one-test = let v = s .vote in admits-exactly (v .n) (v .need) (v .count) (union a b c d) (v .word) (union-outside (v .n) a b c d) refl
 
   pub ways : let v = s .vote in
       (admitted ≡ true → clauses s a b c d ≡ stepOf s a b c d)
@@ -35,6 +32,4 @@ module _ (s : Reserve) (a b c d : ℕ) where
   unfolding stepOf
   ways =
       let v = s .vote in
-      rw (union-outside (v .n) a b c d)
-      (by-one-test (badCount (v .need)) (v .n) (outside (v .n) a || outside (v .n) b || (outside (v .n) c || outside (v .n) d)) (badState v) (notTaken s)
-      (clauses s a b c d) one-test)
+      by-one-test (v .n) (v .need) (v .count) (union a b c d) (v .word) (union-outside (v .n) a b c d) refl (notTaken s) (clauses s a b c d)

@@ -4,23 +4,24 @@ use mathlib.Core.List.{List, map}
 use mathlib.Core.Bool.{false, _||_}
 use Prim.Native.Nat.{ℕ}
 use native.Mathlib.Omega.{arith}
-use lib.ListN.{length}
 use borrow.Author.Tests.{le-ltb}
-use Rattle.rules.specs.Limits.{badCount, tooLong, differ, outside}
+use Rattle.rules.specs.Limits.{badCount, outside}
 use Rattle.rules.specs.Table.{first}
 use Rattle.rules.proofs.Readings.{Makes, Runs, makes, run-makes}
 use Rattle.rules.proofs.Tables.{or-neither}
+use Rattle.trace.specs.Answers.{longFour, apartFour}
 use Rattle.trace.specs.Samples.{somewhere, outsideFour}
 use Rattle.trace.specs.declared.RunAnswer.the-variants.{Done}
 use Rattle.trace.proofs.Runs.{answer-done}
 use Rattle.trace.proofs.Samples.{nowhere}
 use Rattle.trace.proofs.Steps.{agree}
+use Rattle.vote.specs.Run.{unequal}
 use Rattle.vote.proofs.Stepwise.{Sound}
 use Rattle.vote.proofs.Stepwise as vote-steps
 use Rattle.reserve.specs.declared.Reserve.{Reserve}
 use Rattle.reserve.specs.declared.ReserveStep.{ReserveStep}
 use Rattle.reserve.specs.Reserve.{fresh, made, notMade, madeOf, stepOf}
-use Rattle.reserve.specs.Run.{leaves, Sample, stepped, publicStep, steps, publicSteps, shownWord, shownMark, samplesOf, unequal, answerOf, Ran, Stepwise}
+use Rattle.reserve.specs.Run.{leaves, Sample, stepped, publicStep, steps, publicSteps, shownWord, shownMark, samplesOf, answerOf, Ran, Stepwise}
 use Rattle.reserve.proofs.Clauses.{either-pair}
 
 -- on a state whose vote is sound, with words inside the width, the public step is the clauses
@@ -42,11 +43,7 @@ unfolding madeOf
 made-fresh n need word = makes (badCount need) n word notMade (made n need word)
 
 module _ (n need word : ℕ) (a b c d words marks : List ℕ) (accepted : answerOf n need word a b c d words marks ≡ Done) where
-  fine :
-      Runs (badCount need) n word
-      (tooLong (length a) || tooLong (length b) || tooLong (length c) || tooLong (length d))
-      (differ (length a) (length b) || differ (length a) (length c) || differ (length a) (length d) || unequal a words marks)
-      (somewhere (outsideFour n) (samplesOf a b c d))
+  fine : Runs (badCount need) n word (longFour a b c d) (apartFour a b c d (unequal a words marks)) (somewhere (outsideFour n) (samplesOf a b c d))
   fine = answer-done _ _ _ _ _ outsideFour (samplesOf a b c d) accepted
 
   start : Sound n (fresh n need word .vote)

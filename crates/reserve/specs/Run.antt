@@ -2,13 +2,12 @@
 use Prim.Native.Nat.{ℕ}
 use mathlib.Core.Path.{_≡_}
 use mathlib.Core.List.{List, map, zip}
-use mathlib.Core.Bool.{Bool, _||_}
-use lib.ListN.{length}
-use Rattle.rules.specs.Limits.{badCount, differ}
+use Rattle.rules.specs.Limits.{badCount}
 use Rattle.trace.specs.Trace.{trace, left}
 use Rattle.trace.specs.Answers.{fourAnswer, after}
 use Rattle.trace.specs.declared.RunAnswer.{RunAnswer}
 use Rattle.vote.specs.Answers.{wordOf, markOf}
+use Rattle.vote.specs.Run.{unequal}
 use Rattle.reserve.specs.declared.Reserve.{Reserve}
 use Rattle.reserve.specs.declared.ReserveStep.{ReserveStep}
 use Rattle.reserve.specs.Reserve.{fresh, clauses, madeOf, stepOf}
@@ -49,10 +48,7 @@ leftByPublic = left publicStep leaves
 abbrev pub samplesOf : List ℕ → List ℕ → List ℕ → List ℕ → List Sample
 samplesOf a b c d = zip (zip a b) (zip c d)
 
--- 4: an output slice has another length than the first column
-abbrev pub unequal : List ℕ → List ℕ → List ℕ → Bool
-unequal a words marks = differ (length a) (length words) || differ (length a) (length marks)
-
+-- the slices are measured as the vote's are
 abbrev pub answerOf : ℕ → ℕ → ℕ → List ℕ → List ℕ → List ℕ → List ℕ → List ℕ → List ℕ → RunAnswer
 answerOf n need word a b c d words marks = fourAnswer (badCount need) n word a b c d (unequal a words marks)
 

@@ -56,12 +56,6 @@ whole false false false true false = refl
 whole false false false false true = refl
 whole false false false false false = refl
 
-pub admits-exactly :
-    (n need count sample stored : ℕ)
-    → admits n need count (bitOr sample stored) ≡ eqb (first (stepRows (badCount need) n (outside n sample) (ltb (need - 1) count || outside n stored))) 0
-admits-exactly n need count sample stored =
-    rw (outside-or n sample stored) (whole (badCount need) (badWidth n) (outside n sample) (outside n stored) (ltb (need - 1) count))
-
 -- one more reason for row 7: in the table, and in the one test
 more : (m w o d p : Bool) → orElse (first (fourRows m w o d)) 7 p ≡ first (fourRows m w o (d || p))
 unfolding first
@@ -100,12 +94,20 @@ module _ (m : Bool) (n : ℕ) (o d : Bool) where
   pub refused-number : eqb (first (stepRows m n o d)) 0 ≡ false → first (stepRows m n o d) ≡ first (stepRows m n o true)
   refused-number = damaged m (badWidth n) o d
 
+-- the sample's words in one and the state's in another; `o` and `d` are what the table asks of them
+module _ (n need count sample stored : ℕ) {o d : Bool} (outlying : outside n sample ≡ o) (spoilt : ltb (need - 1) count || outside n stored ≡ d) where
+  abbrev rows : List Row
+  rows = stepRows (badCount need) n o d
+
+  pub admits-exactly : admits n need count (bitOr sample stored) ≡ eqb (first rows) 0
+  admits-exactly =
+      rw (← outlying, ← spoilt, outside-or n sample stored) (whole (badCount need) (badWidth n) (outside n sample) (outside n stored) (ltb (need - 1) count))
+
   -- the two ways to answer, as code finds them by the one test
   pub by-one-test :
-      {A : Type 0} (refuse : ℕ → A) (work : A) {admitted : Bool}
-      → admitted ≡ eqb (first (stepRows m n o d)) 0
-      → (admitted ≡ true → work ≡ answer (first (stepRows m n o d)) refuse work)
-      × (admitted ≡ false → refuse (first (stepRows m n o true)) ≡ answer (first (stepRows m n o d)) refuse work)
-  by-one-test refuse work {admitted} found = (λ e. rw (← found, e), λ e. not-taken (sym found ∙ e)) where
-    not-taken : eqb (first (stepRows m n o d)) 0 ≡ false → refuse (first (stepRows m n o true)) ≡ answer (first (stepRows m n o d)) refuse work
-    not-taken e = rw (e, refused-number e)
+      {A : Type 0} (refuse : ℕ → A) (work : A)
+      → (admits n need count (bitOr sample stored) ≡ true → work ≡ answer (first rows) refuse work)
+      × (admits n need count (bitOr sample stored) ≡ false → refuse (first (stepRows (badCount need) n (outside n sample) true)) ≡ answer (first rows) refuse work)
+  by-one-test refuse work = (λ e. rw (← admits-exactly, e), λ e. not-taken (sym admits-exactly ∙ e)) where
+    not-taken : eqb (first rows) 0 ≡ false → refuse (first (stepRows (badCount need) n (outside n sample) true)) ≡ answer (first rows) refuse work
+    not-taken e = rw (outlying, e, refused-number (badCount need) n o d e)

@@ -6,12 +6,12 @@ use Prim.Native.Nat.{ℕ, _≤_, min}
 use native.Mathlib.Omega.{arith}
 use lib.ListN.{length}
 use borrow.Author.Tests.{ltb-false, le-ltb}
-use Rattle.rules.specs.Limits.{tooLong, differ, outside}
+use Rattle.rules.specs.Limits.{outside}
 use Rattle.rules.proofs.Ranges.{same}
-use Rattle.rules.proofs.Readings.{run-0}
-use Rattle.rules.proofs.Tables.{or-neither}
+use Rattle.rules.proofs.Readings.{Runs, run-0}
+use Rattle.rules.proofs.Tables.{or-each}
 use Rattle.trace.specs.Samples.{firstWhere, somewhere, outsidePair, outsideFour}
-use Rattle.trace.specs.Answers.{sampledOf, pairAnswer, fourAnswer}
+use Rattle.trace.specs.Answers.{sampledOf, longPair, longFour, apartPair, apartFour, pairAnswer, fourAnswer}
 use Rattle.trace.proofs.Columns.{zip-length, four-length}
 use Rattle.trace.proofs.Runs.{early, sampled}
 use Rattle.trace.proofs.Samples.{all-passed, either}
@@ -25,54 +25,43 @@ neither p q xs ys e f g =
     rw (either p q xs ys e, zip-length xs ys e) (le-ltb _ _ passed)
 
 module _ (n : ℕ) (a b : List ℕ) where
-  abbrev pub smallest : ℕ
-  smallest = min (firstWhere (outside n) a) (firstWhere (outside n) b)
+  abbrev pub firstOf : ℕ
+  firstOf = min (firstWhere (outside n) a) (firstWhere (outside n) b)
 
-  pair-first : length a ≡ length b → smallest ≡ firstWhere (outsidePair n) (zip a b)
+  pair-first : length a ≡ length b → firstOf ≡ firstWhere (outsidePair n) (zip a b)
   pair-first e = sym (either (outside n) (outside n) a b e)
 
-module _ (miscounted : Bool) (n word : ℕ) (a b : List ℕ) (unequal : Bool) where
-  abbrev pairLong : Bool
-  pairLong = tooLong (length a) || tooLong (length b)
+module _ (miscounted : Bool) (n word : ℕ) (a b : List ℕ) (unequal : Bool) (none : early miscounted n word (longPair a b) (apartPair a b unequal) ≡ 0) where
+  pair-fine : Runs miscounted n word (longPair a b) (apartPair a b unequal) false
+  pair-fine = run-0 _ _ _ _ _ _ .0 none
 
-  abbrev pairApart : Bool
-  pairApart = differ (length a) (length b) || unequal
+  pair-alike : length a ≡ length b
+  pair-alike = or-each (same _ _) (λ e. e) (pair-fine .alike) .0
 
-  module _ (none : early miscounted n word pairLong pairApart ≡ 0) where
-    pair-alike : length a ≡ length b
-    pair-alike = same _ _ (or-neither (differ (length a) (length b)) unequal (run-0 miscounted n word pairLong pairApart false .0 none .alike) .0)
+  pub pair-few : length a ≤ 2048
+  pair-few = or-each (ltb-false 2048 (length a)) (λ e. e) (pair-fine .short) .0
 
-    pub pair-few : length a ≤ 2048
-    pair-few = ltb-false 2048 (length a) (or-neither (tooLong (length a)) (tooLong (length b)) (run-0 miscounted n word pairLong pairApart false .0 none .short) .0)
+  pub pair-sampled : sampledOf (firstOf n a b) (length a) ≡ pairAnswer miscounted n word a b unequal
+  pair-sampled = sampled miscounted n word _ _ outsidePair (zip a b) none (pair-first n a b pair-alike) (sym (zip-length a b pair-alike))
 
-    pub pair-sampled : sampledOf (smallest n a b) (length a) ≡ pairAnswer miscounted n word a b unequal
-    pair-sampled = sampled miscounted n word pairLong pairApart outsidePair (zip a b) none (pair-first n a b pair-alike) (sym (zip-length a b pair-alike))
+module _
+    (miscounted : Bool) (n word : ℕ) (a b c d : List ℕ) (unequal : Bool)
+    (none : early miscounted n word (longFour a b c d) (apartFour a b c d unequal) ≡ 0) where
+  four-fine : Runs miscounted n word (longFour a b c d) (apartFour a b c d unequal) false
+  four-fine = run-0 _ _ _ _ _ _ .0 none
 
-module _ (miscounted : Bool) (n word : ℕ) (a b c d : List ℕ) (unequal : Bool) where
-  abbrev fourLong : Bool
-  fourLong = tooLong (length a) || tooLong (length b) || tooLong (length c) || tooLong (length d)
+  four-alike : (length a ≡ length b) × (length a ≡ length c) × (length a ≡ length d)
+  four-alike =
+      let p = or-each (or-each (or-each (same _ _) (same _ _)) (same _ _)) (λ e. e) (four-fine .alike) .0 in
+      (p .0 .0, p .0 .1, p .1)
 
-  abbrev fourApart : Bool
-  fourApart = differ (length a) (length b) || differ (length a) (length c) || differ (length a) (length d) || unequal
+  pub four-few : length a ≤ 2048
+  four-few = or-each (or-each (or-each (ltb-false 2048 (length a)) (λ e. e)) (λ e. e)) (λ e. e) (four-fine .short) .0 .0 .0
 
-  module _ (none : early miscounted n word fourLong fourApart ≡ 0) where
-    four-alike : (length a ≡ length b) × (length a ≡ length c) × (length a ≡ length d)
-    four-alike =
-        let p = or-neither (differ (length a) (length b) || differ (length a) (length c) || differ (length a) (length d)) unequal (run-0 miscounted n word fourLong fourApart false .0 none .alike) in
-        let q = or-neither (differ (length a) (length b) || differ (length a) (length c)) (differ (length a) (length d)) (p .0) in
-        let r = or-neither (differ (length a) (length b)) (differ (length a) (length c)) (q .0) in
-        (same _ _ (r .0), same _ _ (r .1), same _ _ (q .1))
-
-    pub four-few : length a ≤ 2048
-    four-few =
-        let p = or-neither (tooLong (length a) || tooLong (length b) || tooLong (length c)) (tooLong (length d)) (run-0 miscounted n word fourLong fourApart false .0 none .short) in
-        let q = or-neither (tooLong (length a) || tooLong (length b)) (tooLong (length c)) (p .0) in
-        ltb-false 2048 (length a) (or-neither (tooLong (length a)) (tooLong (length b)) (q .0) .0)
-
-    pub four-sampled : sampledOf (min (smallest n a b) (smallest n c d)) (length a) ≡ fourAnswer miscounted n word a b c d unequal
-    four-sampled =
-        let ab = four-alike .0 in
-        let cd : length c ≡ length d = omega (arith, four-alike) in
-        let pairs : length (zip a b) ≡ length (zip c d) = omega (arith, four-alike, zip-length a b ab, zip-length c d cd) in
-        let found = ap₂ min (pair-first n a b ab) (pair-first n c d cd) ∙ sym (either (outsidePair n) (outsidePair n) (zip a b) (zip c d) pairs) in
-        sampled miscounted n word fourLong fourApart outsideFour (zip (zip a b) (zip c d)) none found (sym (four-length a b c d ab (four-alike .1) (four-alike .2)))
+  pub four-sampled : sampledOf (min (firstOf n a b) (firstOf n c d)) (length a) ≡ fourAnswer miscounted n word a b c d unequal
+  four-sampled =
+      let ab = four-alike .0 in
+      let cd : length c ≡ length d = omega (arith, four-alike) in
+      let pairs : length (zip a b) ≡ length (zip c d) = omega (arith, four-alike, zip-length a b ab, zip-length c d cd) in
+      let found = ap₂ min (pair-first n a b ab) (pair-first n c d cd) ∙ sym (either (outsidePair n) (outsidePair n) (zip a b) (zip c d) pairs) in
+      sampled miscounted n word _ _ outsideFour (zip (zip a b) (zip c d)) none found (sym (four-length a b c d ab (four-alike .1) (four-alike .2)))

@@ -34,20 +34,27 @@ runAnswer out miscounted n word long unequal samples =
 abbrev pub sampledOf : ℕ → ℕ → RunAnswer
 sampledOf smallest samples = if ltb smallest samples then Refused 6 smallest else Done
 
--- runs over the columns of two units, and of two pairs: any of them may be too long, or another than the first in length
+-- 3, of the columns of two units, and of two pairs: any of them has too many samples
+abbrev pub longPair : List ℕ → List ℕ → Bool
+longPair a b = tooLong (length a) || tooLong (length b)
+
+abbrev pub longFour : List ℕ → List ℕ → List ℕ → List ℕ → Bool
+longFour a b c d = tooLong (length a) || tooLong (length b) || tooLong (length c) || tooLong (length d)
+
+-- 4: any of them, or an output slice, has another length than the first
+abbrev pub apartPair : List ℕ → List ℕ → Bool → Bool
+apartPair a b unequal = differ (length a) (length b) || unequal
+
+abbrev pub apartFour : List ℕ → List ℕ → List ℕ → List ℕ → Bool → Bool
+apartFour a b c d unequal = differ (length a) (length b) || differ (length a) (length c) || differ (length a) (length d) || unequal
+
+-- runs over the columns of two units, and of two pairs
 abbrev pub pairAnswer : Bool → ℕ → ℕ → List ℕ → List ℕ → Bool → RunAnswer
-pairAnswer miscounted n word a b unequal =
-    runAnswer outsidePair miscounted n word
-    (tooLong (length a) || tooLong (length b))
-    (differ (length a) (length b) || unequal)
-    (zip a b)
+pairAnswer miscounted n word a b unequal = runAnswer outsidePair miscounted n word (longPair a b) (apartPair a b unequal) (zip a b)
 
 abbrev pub fourAnswer : Bool → ℕ → ℕ → List ℕ → List ℕ → List ℕ → List ℕ → Bool → RunAnswer
 fourAnswer miscounted n word a b c d unequal =
-    runAnswer outsideFour miscounted n word
-    (tooLong (length a) || tooLong (length b) || tooLong (length c) || tooLong (length d))
-    (differ (length a) (length b) || differ (length a) (length c) || differ (length a) (length d) || unequal)
-    (zip (zip a b) (zip c d))
+    runAnswer outsideFour miscounted n word (longFour a b c d) (apartFour a b c d unequal) (zip (zip a b) (zip c d))
 
 -- a lent slice afterwards: as it came if the run is refused, and what the run writes if not
 abbrev pub after : RunAnswer → List ℕ → List ℕ → List ℕ

@@ -2,15 +2,16 @@
 -- state that a step takes, and each word of the first column is inside the width.
 use mathlib.Core.Path.{_≡_, sym, ap, _∙_}
 use mathlib.Core.List.{List, zip}
-use mathlib.Core.Bool.{false, _||_}
+use mathlib.Core.Bool.{false}
 use Prim.Native.Nat.{ℕ, _≤_, _<_}
 use native.Mathlib.Omega.{arith}
 use lib.ListN.{length, getD}
 use borrow.Author.Tests.{ltb-false}
-use Rattle.rules.specs.Limits.{badCount, tooLong, differ, outside}
+use Rattle.rules.specs.Limits.{badCount, tooLong, outside}
 use Rattle.rules.proofs.Ranges.{same}
 use Rattle.rules.proofs.Readings.{Runs}
 use Rattle.rules.proofs.Tables.{or-neither, or-each}
+use Rattle.trace.specs.Answers.{longPair, apartPair}
 use Rattle.trace.specs.Samples.{somewhere, outsidePair}
 use Rattle.trace.specs.declared.RunAnswer.the-variants.{Done}
 use Rattle.trace.proofs.Columns.{zip-length, zip-at}
@@ -30,7 +31,7 @@ pub record Accepted (n need word : ℕ) (a b words masks marks : List ℕ) : Typ
   pub first-inside : (i : ℕ) → i < length a → outside n (getD a i 0) ≡ false
 
 module _ (n need word : ℕ) (a b words masks marks : List ℕ) (accepted : answerOf n need word a b words masks marks ≡ Done) where
-  pub fine : Runs (badCount need) n word (tooLong (length a) || tooLong (length b)) (differ (length a) (length b) || unequal a words masks marks) (somewhere (outsidePair n) (zip a b))
+  pub fine : Runs (badCount need) n word (longPair a b) (apartPair a b (unequal a words masks marks)) (somewhere (outsidePair n) (zip a b))
   fine = answer-done _ _ _ _ _ outsidePair (zip a b) accepted
 
   pub accept : Accepted n need word a b words masks marks

@@ -3,16 +3,14 @@
 use mathlib.Core.Path.{_≡_, refl}
 use mathlib.Core.Logic.{_↔_}
 use mathlib.Core.List.{List, [], zip}
-use mathlib.Core.Bool.{_||_}
 use Prim.Native.Nat.{ℕ}
-use lib.ListN.{length}
-use Rattle.rules.specs.Limits.{badCount, tooLong, differ}
+use Rattle.rules.specs.Limits.{badCount}
 use Rattle.rules.specs.Table.{Given, LowestOf, numbered, rising}
 use Rattle.rules.specs.Refusals.{makeRows, runRows}
 use Rattle.rules.proofs.Readings.{Makes}
 use Rattle.rules.proofs.Tables.{exactly-when, lowest}
 use Rattle.trace.specs.Samples.{somewhere, Smallest, outsidePair}
-use Rattle.trace.specs.Answers.{runNumber, runSample}
+use Rattle.trace.specs.Answers.{runNumber, runSample, longPair, apartPair}
 use Rattle.trace.specs.declared.RunAnswer.{RunAnswer}
 use Rattle.trace.specs.declared.RunAnswer.the-variants.{Done}
 use Rattle.trace.proofs.Runs as runs
@@ -57,7 +55,7 @@ module _ (n need word : ℕ) (a b words masks marks : List ℕ) where
 
   pub run-exactly :
       (k : ℕ) → (runNumber answered ≡ k)
-      ↔ Given k (runRows (badCount need) n word (tooLong (length a) || tooLong (length b)) (differ (length a) (length b) || unequal a words masks marks) (somewhere (outsidePair n) (zip a b)))
+      ↔ Given k (runRows (badCount need) n word (longPair a b) (apartPair a b (unequal a words masks marks)) (somewhere (outsidePair n) (zip a b)))
   run-exactly = runs.answer-exactly _ _ _ _ _ outsidePair (zip a b)
 
   -- 6 comes with the smallest sample outside the width, and any other number with sample 0

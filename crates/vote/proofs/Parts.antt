@@ -1,7 +1,7 @@
 -- A part of a run over two columns: it starts with nothing taken, each turn takes one sample more, and past the last it is over.
 use mathlib.Core.Path.{_≡_, refl, sym, ap, _∙_}
 use mathlib.Core.List.{List, [], _∷_, map, zip}
-use mathlib.Core.Bool.{Bool, true, false, _&&_, _||_}
+use mathlib.Core.Bool.{Bool, true, false, _&&_}
 use Prim.Native.Nat.{ℕ, suc, _+_, _-_, _<_, _≤_}
 use native.Mathlib.Numerals.{add-one}
 use native.Mathlib.Omega.{arith}
@@ -10,7 +10,7 @@ use lib.ListN.{length, getD, take, drop, set, length-set, length-append, length-
 use lib.Seq.{drop-cons, drop-drop, drop-set-lt, drop-at, take-all, take-at, length-take-le}
 use borrow.Author.Tests.{eq-eqb}
 use Rattle.rules.specs.Choose.{if_then_else_}
-use Rattle.rules.specs.Limits.{differ}
+use Rattle.trace.specs.Answers.{apartPair}
 use Rattle.trace.specs.Trace.{trace, left}
 use Rattle.trace.proofs.Columns.{zip-length, zip-at}
 use Rattle.trace.proofs.Parts.{left-turn, shown-turn}
@@ -127,7 +127,7 @@ taken-most once s (x ∷ xs) = go (once && eqb (shownMark (plain s x)) 2) (taken
 shown-long : (f : VoteStep → ℕ) (s : Vote) (xs : List (ℕ × ℕ)) (end : ℕ) → end ≤ length xs → length (map f (steps s (take end xs))) ≡ end
 shown-long f s xs end h = length-map (steps s (take end xs)) f ∙ trace-length plain leaves s (take end xs) ∙ length-take-le end xs h
 
-module _ (once : Bool) (s : Vote) (a b words marks : List ℕ) (alike : differ (length a) (length b) || unequal a words marks ≡ false) where
+module _ (once : Bool) (s : Vote) (a b words marks : List ℕ) (alike : apartPair a b (unequal a words marks) ≡ false) where
   pub promised : (r : VotePart) (words′ marks′ : List ℕ) → r .over ≡ true → Taken once s (zip a b) words marks (r .end) (r .state) true words′ marks′ → Parts once s a b words marks r words′ marks′
   promised r words′ marks′ o p =
       let here : takenBy once s (zip a b) ≡ r .end = omega (arith, p .counted) in
@@ -138,7 +138,7 @@ module _ (once : Bool) (s : Vote) (a b words marks : List ℕ) (alike : differ (
       }
 
 module _ (once : Bool) (s : Vote) (a b words marks : List ℕ) (ab : length a ≡ length b) (aw : length a ≡ length words) (am : length a ≡ length marks) where
-  alike : differ (length a) (length b) || unequal a words marks ≡ false
+  alike : apartPair a b (unequal a words marks) ≡ false
   alike = rw (eq-eqb (length a) (length b) ab, eq-eqb (length a) (length words) aw, eq-eqb (length a) (length marks) am)
 
   pub as-taken : (r : VotePart) (words′ marks′ : List ℕ) → Parts once s a b words marks r words′ marks′ → Taken once s (zip a b) words marks (r .end) (r .state) true words′ marks′

@@ -4,13 +4,13 @@ use mathlib.Core.List.{List, map, zip}
 use mathlib.Core.Bool.{Bool, true, false, _||_}
 use Prim.Native.Nat.{ℕ, _+_, _-_, _≤_}
 use native.Mathlib.Omega.{arith}
-use lib.ListN.{length}
 use lib.Dec.{ltb, eqb}
 use borrow.Author.Tests.{le-ltb, ltb-true}
-use Rattle.rules.specs.Limits.{badCount, badWidth, tooLong, differ, outside}
+use Rattle.rules.specs.Limits.{badCount, badWidth, outside}
 use Rattle.rules.specs.Table.{first}
 use Rattle.rules.proofs.Readings.{Makes, Runs, makes, run-makes}
 use Rattle.rules.proofs.Tables.{or-neither}
+use Rattle.trace.specs.Answers.{longPair, apartPair}
 use Rattle.trace.specs.declared.RunAnswer.the-variants.{Done}
 use Rattle.trace.specs.Samples.{somewhere, outsidePair}
 use Rattle.trace.proofs.Runs.{answer-done}
@@ -53,7 +53,7 @@ unfolding madeOf
 made-fresh n need word = makes (badCount need) n word notMade (made n need word)
 
 module _ (n need word : ℕ) (a b words marks : List ℕ) (accepted : answerOf n need word a b words marks ≡ Done) where
-  fine : Runs (badCount need) n word (tooLong (length a) || tooLong (length b)) (differ (length a) (length b) || unequal a words marks) (somewhere (outsidePair n) (zip a b))
+  fine : Runs (badCount need) n word (longPair a b) (apartPair a b (unequal a words marks)) (somewhere (outsidePair n) (zip a b))
   fine = answer-done _ _ _ _ _ outsidePair (zip a b) accepted
 
   start : Sound n (fresh n need word)

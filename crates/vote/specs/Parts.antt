@@ -2,11 +2,11 @@
 use Prim.Native.Nat.{ℕ, suc, _+_}
 use mathlib.Core.Path.{_≡_}
 use mathlib.Core.List.{List, [], _∷_, _++_, map, zip}
-use mathlib.Core.Bool.{Bool, true, false, _&&_, _||_}
+use mathlib.Core.Bool.{Bool, true, false, _&&_}
 use lib.Dec.{eqb}
 use lib.ListN.{length, take, drop}
 use Rattle.rules.specs.Choose.{if_then_else_}
-use Rattle.rules.specs.Limits.{differ}
+use Rattle.trace.specs.Answers.{apartPair}
 use Rattle.trace.specs.Trace.{left}
 use Rattle.vote.specs.declared.Vote.{Vote}
 use Rattle.vote.specs.declared.VotePart.{VotePart}
@@ -24,7 +24,7 @@ part once s xs = record { state = left plain leaves s (take (takenBy once s xs) 
 -- of two columns: nothing where columns or slices differ in length
 abbrev pub partOf : Bool → Vote → List ℕ → List ℕ → List ℕ → List ℕ → VotePart
 partOf once s a b words marks =
-    if differ (length a) (length b) || unequal a words marks then record { state = s; end = 0; over = true } else
+    if apartPair a b (unequal a words marks) then record { state = s; end = 0; over = true } else
     part once s (zip a b)
 
 -- what the steps promise of their answer and of each lent slice: what each step shows on the first places, the others as they came

@@ -1,18 +1,18 @@
 -- `reserve::run` meets its contract: a refused run leaves every slice, and where none is refused the lengths are alike.
 use mathlib.Core.Path.{_≡_, sym, ap, _∙_}
-use mathlib.Core.Bool.{_||_}
 use borrow.Author.Needs.{needs}
-use lib.ListN.{length}
-use Rattle.rules.specs.Limits.{badCount, tooLong, differ}
+use Rattle.rules.specs.Limits.{badCount}
 use Rattle.rules.proofs.Ranges.{same}
 use Rattle.rules.proofs.Readings.{Runs, run-makes}
 use Rattle.rules.proofs.Tables.{or-each}
+use Rattle.trace.specs.Answers.{longFour, apartFour}
 use Rattle.trace.specs.Samples.{somewhere, outsideFour}
 use Rattle.trace.proofs.Runs.{answer-done}
+use Rattle.vote.specs.Run.{unequal}
 use Rattle.reserve.specs.declared.Reserve.{Reserve}
 use Rattle.reserve.specs.declared.ReserveMade.{ReserveMade}
 use Rattle.reserve.specs.Reserve.{fresh}
-use Rattle.reserve.specs.Run.{samplesOf, unequal, answerOf}
+use Rattle.reserve.specs.Run.{samplesOf, answerOf}
 use Rattle.reserve.proofs.Stepwise.{made-fresh}
 use Rattle.reserve.proofs.run.Statement.{statement}
 use Rattle.reserve.proofs.run.Tie as tie
@@ -29,9 +29,7 @@ returns c =
 -- where the run is not refused
 fine : (c : tie.After-enum-told) → let x = c .before .before .before .before .before .before .before .before .before .before .args in
     let a = x .a .now in let b = x .b .now in let c = x .c .now in let d = x .d .now in
-    Runs (badCount (x .need)) (x .n) (x .word)
-    (tooLong (length a) || tooLong (length b) || tooLong (length c) || tooLong (length d))
-    (differ (length a) (length b) || differ (length a) (length c) || differ (length a) (length d) || unequal a (x .words .now) (x .marks .now))
+    Runs (badCount (x .need)) (x .n) (x .word) (longFour a b c d) (apartFour a b c d (unequal a (x .words .now) (x .marks .now)))
     (somewhere (outsideFour (x .n)) (samplesOf a b c d))
 fine c = answer-done _ _ _ _ _ outsideFour _ (sym (answered (c .before .before)) ∙ c .enum-told .given .1)
 

@@ -1,5 +1,10 @@
 -- `rules::step_number` meets its contract: each test is a row of the table.
+use mathlib.Core.Path.{_≡_}
+use mathlib.Core.Bool.{Bool, true, false}
+use Rattle.rules.specs.Choose.{if_then_else_}
+use Rattle.rules.specs.Limits.{badCount, outside}
 use Rattle.rules.specs.Table.{first}
+use Rattle.rules.specs.Refusals.{stepRows}
 use Rattle.rules.proofs.step_number.Statement.{statement}
 use Rattle.rules.proofs.step_number.Tie as tie
 
@@ -13,33 +18,20 @@ returns-2 c =
     let one = c .before .before in
     rw (← one .before .bad-count .ensures, one .if1 .left, ← c .before .bad-width .ensures, c .if2 .taken)
 
-returns-3 : tie.Need-returns-3
+-- where neither N nor n is refused, the sample decides
+by-sample : (c : tie.After-outside) → let x = c .before .before .before .before .before .args in (b : Bool) → c .outside .result ≡ b
+    → (if b then 6 else 7) ≡ first (stepRows (badCount (x .need)) (x .n) (outside (x .n) (x .sample)) true)
 unfolding first
-returns-3 c =
-    let two = c .before .before in
+by-sample c b e =
+    let two = c .before in
     let one = two .before .before in
-    rw (
-      ← one .before .bad-count .ensures,
-      one .if1 .left,
-      ← two .before .bad-width .ensures,
-      two .if2 .left,
-      ← c .before .outside .ensures,
-      c .if3 .taken,
-    )
+    rw (← one .before .bad-count .ensures, one .if1 .left, ← two .before .bad-width .ensures, two .if2 .left, ← c .outside .ensures, e)
+
+returns-3 : tie.Need-returns-3
+returns-3 c = by-sample (c .before) true (c .if3 .taken)
 
 returns-4 : tie.Need-returns-4
-unfolding first
-returns-4 c =
-    let two = c .before .before in
-    let one = two .before .before in
-    rw (
-      ← one .before .bad-count .ensures,
-      one .if1 .left,
-      ← two .before .bad-width .ensures,
-      two .if2 .left,
-      ← c .before .outside .ensures,
-      c .if3 .left,
-    )
+returns-4 c = by-sample (c .before) false (c .if3 .left)
 
 pub step-number-spec : {M : Type 1} → statement M
 step-number-spec = tie.close (tie.spec (λ _ _. tt) returns (λ _ _. tt) returns-2 (λ _ _. tt) returns-3 returns-4)

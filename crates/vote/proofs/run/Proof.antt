@@ -1,11 +1,10 @@
 -- `vote::run` meets its contract: a refused run leaves every slice, and where none is refused the lengths are alike.
 use mathlib.Core.Path.{_≡_, sym, _∙_}
-use mathlib.Core.Bool.{false, _||_}
+use mathlib.Core.Bool.{false}
 use borrow.Author.Needs.{needs}
-use lib.ListN.{length}
-use Rattle.rules.specs.Limits.{differ}
 use Rattle.rules.proofs.Ranges.{same}
 use Rattle.rules.proofs.Tables.{or-each}
+use Rattle.trace.specs.Answers.{apartPair}
 use Rattle.trace.specs.Samples.{outsidePair}
 use Rattle.trace.proofs.Runs.{answer-done}
 use Rattle.vote.specs.Run.{answerOf, unequal}
@@ -24,7 +23,7 @@ returns c =
 
 -- where the run is not refused, every slice is as long as the first column
 alike : (c : tie.After-enum-told) → let a = c .before .before .before .before .before .before .before .before .args in
-    differ (length (a .a .now)) (length (a .b .now)) || unequal (a .a .now) (a .words .now) (a .marks .now) ≡ false
+    apartPair (a .a .now) (a .b .now) (unequal (a .a .now) (a .words .now) (a .marks .now)) ≡ false
 alike c = answer-done _ _ _ _ _ outsidePair _ (sym (answered (c .before .before)) ∙ c .enum-told .given .1) .alike
 
 take-steps-requires : tie.Need-take-steps-requires

@@ -1,35 +1,29 @@
 -- `Confirm::step` meets its contract: where the one test finds nothing wrong the clauses, else the state as it came.
-use mathlib.Core.Path.{_≡_, sym, _∙_}
-use mathlib.Core.Bool.{Bool, true, false, or-assoc}
+use mathlib.Core.Path.{_≡_, refl, sym, _∙_}
+use mathlib.Core.Bool.{true, false, _||_, or-assoc}
 use borrow.Author.Tests.{not-false, not-true}
 use Prim.Native.Nat.{ℕ, _-_}
 use lib.Bits.{bitOr}
-use lib.Dec.{ltb, eqb}
+use lib.Dec.{ltb}
 use Rattle.rules.specs.Limits.{badCount, outside}
 use Rattle.rules.specs.Table.{first}
 use Rattle.rules.specs.Refusals.{stepRows, admits}
-use Rattle.rules.proofs.OneTest.{admits-exactly, by-one-test}
+use Rattle.rules.proofs.OneTest.{by-one-test}
 use Rattle.rules.proofs.Width.{outside-or}
 use Rattle.confirm.specs.declared.Confirm.{Confirm}
-use Rattle.confirm.specs.Confirm.{clauses, rowsOf, badState, notTaken, stepOf}
+use Rattle.confirm.specs.Confirm.{clauses, badState, notTaken, stepOf}
 use Rattle.confirm.proofs.Confirm.step.Statement.{statement}
 use Rattle.confirm.proofs.Confirm.step.Tie as tie
 
-module _ (s : Confirm) (x : ℕ) where
-  abbrev admitted : Bool
-  admitted = admits (s .n) (s .need) (s .count) (bitOr x (bitOr (s .input) (s .output)))
-
-  -- the one test is the table's
-  one-test : admitted ≡ eqb (first (rowsOf s x)) 0
-  one-test =
-      rw (or-assoc (ltb (s .need - 1) (s .count)) (outside (s .n) (s .input)) (outside (s .n) (s .output)), ← outside-or (s .n) (s .input) (s .output))
-      (admits-exactly (s .n) (s .need) (s .count) x (bitOr (s .input) (s .output)))
-
-  ways :
-      (admitted ≡ true → clauses s x ≡ stepOf s x)
-      × (admitted ≡ false → notTaken s (first (stepRows (badCount (s .need)) (s .n) (outside (s .n) x) true)) ≡ stepOf s x)
-  unfolding stepOf
-  ways = by-one-test (badCount (s .need)) (s .n) (outside (s .n) x) (badState s) (notTaken s) (clauses s x) one-test
+-- the one test is the table's, and decides between the clauses and a refusal
+ways : (s : Confirm) (x : ℕ) → let admitted = admits (s .n) (s .need) (s .count) (bitOr x (bitOr (s .input) (s .output))) in
+    (admitted ≡ true → clauses s x ≡ stepOf s x)
+    × (admitted ≡ false → notTaken s (first (stepRows (badCount (s .need)) (s .n) (outside (s .n) x) true)) ≡ stepOf s x)
+unfolding stepOf
+ways s x =
+    let spoilt : ltb (s .need - 1) (s .count) || outside (s .n) (bitOr (s .input) (s .output)) ≡ badState s =
+    rw (outside-or (s .n) (s .input) (s .output)) (sym (or-assoc (ltb (s .need - 1) (s .count)) (outside (s .n) (s .input)) (outside (s .n) (s .output)))) in
+    by-one-test (s .n) (s .need) (s .count) x (bitOr (s .input) (s .output)) refl spoilt (notTaken s) (clauses s x)
 
 returns : tie.Need-returns
 returns c =

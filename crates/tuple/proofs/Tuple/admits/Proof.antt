@@ -1,5 +1,5 @@
 -- `Tuple::admits` meets its contract: the one test, with the places as one more reason for row 7.
-use mathlib.Core.Path.{_≡_}
+use mathlib.Core.Path.{_≡_, refl}
 use mathlib.Core.Bool.{Bool, true, false, not, _&&_, _||_, or-true, or-false, or-assoc}
 use Prim.Native.Nat.{ℕ, _-_}
 use borrow.Author.Needs.{needs}
@@ -29,11 +29,10 @@ tested s a b =
     let stored = bitOr (s .agreed) (bitOr (f .input) (f .output)) in
     let places = badPlaces (width s) (voteNeed s) (s .counts) in
     rw (
-      admits-exactly (f .n) (f .need) (f .count) (bitOr a b) stored,
-      one-test-more (badCount (f .need)) (f .n) (outside (f .n) (bitOr a b)) (ltb (f .need - 1) (f .count) || outside (f .n) stored) places,
+      admits-exactly (f .n) (f .need) (f .count) (bitOr a b) stored (outside-or (f .n) a b) refl,
+      one-test-more (badCount (f .need)) (f .n) (outside (f .n) a || outside (f .n) b) (ltb (f .need - 1) (f .count) || outside (f .n) stored) places,
       outside-or (f .n) (s .agreed) (bitOr (f .input) (f .output)),
       outside-or (f .n) (f .input) (f .output),
-      outside-or (f .n) a b,
       in-order (ltb (f .need - 1) (f .count)) (outside (f .n) (s .agreed)) (outside (f .n) (f .input)) (outside (f .n) (f .output)) places,
     )
 

@@ -1,35 +1,25 @@
 -- `Vote::step` meets its contract: where the one test finds nothing wrong the clauses, else the state as it came.
-use mathlib.Core.Path.{_≡_, sym, _∙_}
-use mathlib.Core.Bool.{Bool, true, false, _||_}
+use mathlib.Core.Path.{_≡_, refl, sym, _∙_}
+use mathlib.Core.Bool.{Bool, true, false}
 use borrow.Author.Tests.{not-false, not-true}
 use Prim.Native.Nat.{ℕ}
 use lib.Bits.{bitOr}
-use lib.Dec.{eqb}
 use Rattle.rules.specs.Limits.{badCount, outside}
 use Rattle.rules.specs.Table.{first}
 use Rattle.rules.specs.Refusals.{stepRows, admits}
-use Rattle.rules.proofs.OneTest.{admits-exactly, by-one-test}
+use Rattle.rules.proofs.OneTest.{by-one-test}
 use Rattle.rules.proofs.Width.{outside-or}
 use Rattle.vote.specs.declared.Vote.{Vote}
-use Rattle.vote.specs.Vote.{clauses, rowsOf, badState, notTaken, stepOf}
+use Rattle.vote.specs.Vote.{clauses, notTaken, stepOf}
 use Rattle.vote.proofs.Vote.step.Statement.{statement}
 use Rattle.vote.proofs.Vote.step.Tie as tie
 
-module _ (s : Vote) (a b : ℕ) (reset : Bool) where
-  abbrev admitted : Bool
-  admitted = admits (s .n) (s .need) (s .count) (bitOr (bitOr a b) (s .word))
-
-  -- the one test is the table's
-  one-test : admitted ≡ eqb (first (rowsOf s a b)) 0
-  one-test = rw (← outside-or (s .n) a b) (admits-exactly (s .n) (s .need) (s .count) (bitOr a b) (s .word))
-
-  ways :
-      (admitted ≡ true → clauses s a b reset ≡ stepOf s a b reset)
-      × (admitted ≡ false → notTaken s (first (stepRows (badCount (s .need)) (s .n) (outside (s .n) (bitOr a b)) true)) ≡ stepOf s a b reset)
-  unfolding stepOf
-  ways =
-      rw (outside-or (s .n) a b)
-      (by-one-test (badCount (s .need)) (s .n) (outside (s .n) a || outside (s .n) b) (badState s) (notTaken s) (clauses s a b reset) one-test)
+-- the one test is the table's, and decides between the clauses and a refusal
+ways : (s : Vote) (a b : ℕ) (reset : Bool) → let admitted = admits (s .n) (s .need) (s .count) (bitOr (bitOr a b) (s .word)) in
+    (admitted ≡ true → clauses s a b reset ≡ stepOf s a b reset)
+    × (admitted ≡ false → notTaken s (first (stepRows (badCount (s .need)) (s .n) (outside (s .n) (bitOr a b)) true)) ≡ stepOf s a b reset)
+unfolding stepOf
+ways s a b reset = by-one-test (s .n) (s .need) (s .count) (bitOr a b) (s .word) (outside-or (s .n) a b) refl (notTaken s) (clauses s a b reset)
 
 returns : tie.Need-returns
 returns c =
