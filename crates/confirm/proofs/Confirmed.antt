@@ -4,12 +4,12 @@ use mathlib.Core.Path.{_≡_, refl, sym, _∙_}
 use mathlib.Core.Logic.{_↔_}
 use mathlib.Core.List.{List, [], _∷_, map}
 use mathlib.Core.Bool.{Bool, true, false, not}
-use Prim.Native.Nat.{ℕ, zero, suc, _-_, _≤_, _<_, min}
+use Prim.Native.Nat.{ℕ, zero, suc, _-_, _≤_, _<_}
 use native.Mathlib.Omega.{arith}
 use lib.Dec.{ltb, eqb}
 use lib.ListN.{length, getD}
-use borrow.Author.Tests.{ltb-true, ltb-false, eqb-true, eq-eqb}
-use Rattle.trace.proofs.Rows.{on, tests, row-shown}
+use borrow.Author.Tests.{eqb-true, eq-eqb}
+use Rattle.trace.proofs.Rows.{tests, Counting, row-shown}
 use Rattle.confirm.specs.declared.Confirm.{Confirm}
 use Rattle.confirm.specs.declared.ConfirmStep.{ConfirmStep}
 use Rattle.confirm.specs.Confirm.{fresh, clauses}
@@ -32,27 +32,15 @@ stood s (x ∷ xs) (suc j) h =
     let z : suc j < suc (length xs) = h in
     stood (clauses s x .state) xs j (omega arith) ∙ rw (stored s x)
 
-module _ (need : ℕ) (some : 1 ≤ need) where
-  -- a state in which d samples in a row have stood
-  record Counts (d : ℕ) (s : Confirm) : Type 0 where
-    needs : s .need ≡ need
-    counted : s .count ≡ min d (need - 1)
-
-  counts-on : (d : ℕ) (s : Confirm) (x : ℕ) → Counts d s → Counts (on d (stands s x)) (leaves (clauses s x))
-  unfolding clauses
-  counts-on d s x c = go (stands s x) (ltb (s .count) (s .need - 1)) refl where
-    go : (p r : Bool) → ltb (s .count) (s .need - 1) ≡ r → Counts (on d p) (byTests s x (not p) r .state)
-    go false r q = record { needs = c .needs; counted = omega arith }
-    go true true q = record { needs = c .needs; counted = omega (arith, c .needs, c .counted, ltb-true (s .count) (s .need - 1) q) }
-    go true false q = record { needs = c .needs; counted = omega (arith, c .needs, c .counted, ltb-false (s .count) (s .need - 1) q) }
-
-  confirms-now : (d : ℕ) (s : Confirm) (x : ℕ) → Counts d s → (shownMark (clauses s x) ≡ 0) ↔ (need ≤ on d (stands s x))
-  unfolding clauses
-  confirms-now d s x c = go (stands s x) (ltb (s .count) (s .need - 1)) refl where
-    go : (p r : Bool) → ltb (s .count) (s .need - 1) ≡ r → (shownMark (byTests s x (not p) r) ≡ 0) ↔ (need ≤ on d p)
-    go false r q = (λ e. absurd (omega arith), λ h. absurd (omega arith))
-    go true true q = (λ e. absurd (omega arith), λ h. absurd (omega (arith, c .needs, c .counted, ltb-true (s .count) (s .need - 1) q)))
-    go true false q = (λ e. omega (arith, c .needs, c .counted, ltb-false (s .count) (s .need - 1) q), λ h. refl)
+-- a sample that stands is counted; confirmed is 0, held is 1
+counting : (s : Confirm) (x : ℕ) → let t = clauses s x in
+    Counting 0 1 (s .need) (s .count) (stands s x) (ltb (s .count) (s .need - 1)) (t .state .need) (t .state .count) (shownMark t)
+unfolding clauses
+counting s x = go (stands s x) (ltb (s .count) (s .need - 1)) where
+  go : (p r : Bool) → let t = byTests s x (not p) r in Counting 0 1 (s .need) (s .count) p r (t .state .need) (t .state .count) (shownMark t)
+  go false r = record { stays = refl; counted = refl; marked = refl }
+  go true true = record { stays = refl; counted = refl; marked = refl }
+  go true false = record { stays = refl; counted = refl; marked = refl }
 
 -- the theorem, of every trace from a fresh state; N 0 is refused by every call
 pub confirmed-exactly :
@@ -60,7 +48,9 @@ pub confirmed-exactly :
     → (getD (map shownMark (steps (fresh n need word) xs)) i 255 ≡ 0) ↔ Standing need word xs i
 confirmed-exactly n need word some xs i h =
     let s = fresh n need word in
-    let rows = row-shown need some clauses leaves stands shownMark 0 (Counts need some) (counts-on need some) (confirms-now need some) 0 s xs i (record { needs = refl; counted = omega arith }) h in
+    let rows =
+    row-shown need some 0 1 (λ e. omega arith) (λ e. omega arith) clauses leaves stands (λ s. s .need) (λ s. s .count) shownMark counting
+    0 s xs i (record { needs = refl; counted = omega arith }) h in
     let at = stood s xs in (
       λ e. let f = rows .0 e in record { exist = omega (arith, f .exist); same = λ j l m. eqb-true _ _ (sym (at j (omega arith)) ∙ f .met j l m) },
       λ g. rows .1 (record { exist = omega (arith, g .exist); met = λ j l m. at j (omega arith) ∙ eq-eqb _ _ (g .same j l m) }),

@@ -4,10 +4,12 @@ use mathlib.Core.Path.{_≡_, refl, sym}
 use mathlib.Core.Logic.{_↔_, dite}
 use mathlib.Core.List.{List, [], _∷_, map}
 use mathlib.Core.Bool.{Bool, true, false, true≢false}
-use Prim.Native.Nat.{ℕ, zero, suc, _+_, _≤_, _<_}
+use Prim.Native.Nat.{ℕ, zero, suc, _+_, _-_, _≤_, _<_, min}
 use native.Mathlib.Decide.{decLt}
 use native.Mathlib.Omega.{arith}
+use lib.Dec.{ltb}
 use lib.ListN.{length, getD}
+use borrow.Author.Tests.{ltb-true, ltb-false}
 use Rattle.rules.specs.Choose.{if_then_else_}
 use Rattle.trace.specs.Trace.{trace}
 
@@ -19,6 +21,20 @@ on d met = if met then suc d else 0
 unfoldable pub tests : {S X T : Type 0} → (S → X → T) → (T → S) → (S → X → Bool) → S → List X → List Bool
 tests step leaves test s [] = []
 tests step leaves test s (x ∷ xs) = test s x ∷ tests step leaves test (leaves (step s x)) xs
+
+-- the count of a voter, and the mark that it shows: a sample that does not meet the test starts again, one that does is counted below N-1, held,
+-- and from there on it has the mark of a full row
+abbrev countAfter : ℕ → Bool → Bool → ℕ
+countAfter count met waiting = if met then (if waiting then count + 1 else count) else 0
+
+abbrev markAfter : ℕ → ℕ → Bool → Bool → ℕ
+markAfter mark other met waiting = if met then (if waiting then 1 else mark) else other
+
+-- a step counts so; N stays
+pub record Counting (mark other need count : ℕ) (met waiting : Bool) (need′ count′ shown : ℕ) : Type 0 where
+  pub stays : need′ ≡ need
+  pub counted : count′ ≡ countAfter count met waiting
+  pub marked : shown ≡ markAfter mark other met waiting
 
 module _ (need : ℕ) (some : 1 ≤ need) where
   -- the N samples up to i meet the test, those before the trace counted
@@ -54,20 +70,43 @@ module _ (need : ℕ) (some : 1 ≤ need) where
     short : Full d (false ∷ ms) (suc i) → need ≤ 0 + (i + 1)
     short f = dite (decLt (i + 1) need) (λ m. absurd (true≢false (sym (f .met 0 (omega arith) (omega arith))))) (λ m. omega arith)
 
-  -- a voter, the test of a sample in a state, and what it is for a state to have counted d in a row
-  module _
-      {S X T : Type 0} (step : S → X → T) (leaves : T → S) (test : S → X → Bool) (shown : T → ℕ) (mark : ℕ) (Counts : ℕ → S → Type 0)
-      (counts-on : (d : ℕ) (s : S) (x : X) → Counts d s → Counts (on d (test s x)) (leaves (step s x)))
-      (marks-now : (d : ℕ) (s : S) (x : X) → Counts d s → (shown (step s x) ≡ mark) ↔ (need ≤ on d (test s x)))
-    where
-      pub row-shown :
-          (d : ℕ) (s : S) (xs : List X) (i : ℕ) → Counts d s → i < length xs
-          → (getD (map shown (trace step leaves s xs)) i 255 ≡ mark) ↔ Full d (tests step leaves test s xs) i
-      unfolding trace tests
-      row-shown d s [] i c h = absurd (let z : i < 0 = h in omega arith)
-      row-shown d s (x ∷ xs) zero c h =
-          let now = marks-now d s x c in
-          let row = row-first d (test s x) (tests step leaves test (leaves (step s x)) xs) in (λ e. row .0 (now .0 e), λ f. now .1 (row .1 f))
-      row-shown d s (x ∷ xs) (suc i) c h =
-          row-later d (test s x) (tests step leaves test (leaves (step s x)) xs) i
-          (row-shown (on d (test s x)) (leaves (step s x)) xs i (counts-on d s x c) (let z : suc i < suc (length xs) = h in omega arith))
+  -- a state in which d samples in a row have met the test
+  pub record Counts (d need′ count : ℕ) : Type 0 where
+    pub needs : need′ ≡ need
+    pub counted : count ≡ min d (need - 1)
+
+  counts-on : (d : ℕ) (met : Bool) {n c : ℕ} → Counts d n c → Counts (on d met) n (countAfter c met (ltb c (n - 1)))
+  counts-on d false k = record { needs = k .needs; counted = omega arith }
+  counts-on d true {n} {c} k = go (ltb c (n - 1)) refl where
+    go : (r : Bool) → ltb c (n - 1) ≡ r → Counts (suc d) n (if r then c + 1 else c)
+    go true q = record { needs = k .needs; counted = omega (arith, k .needs, k .counted, ltb-true c (n - 1) q) }
+    go false q = record { needs = k .needs; counted = omega (arith, k .needs, k .counted, ltb-false c (n - 1) q) }
+
+  module _ (mark other : ℕ) (not-held : 1 ≡ mark → ⊥) (not-other : other ≡ mark → ⊥) where
+    marked-full : (d : ℕ) (met : Bool) {n c : ℕ} → Counts d n c → (markAfter mark other met (ltb c (n - 1)) ≡ mark) ↔ (need ≤ on d met)
+    marked-full d false k = (λ e. absurd (not-other e), λ h. absurd (omega arith))
+    marked-full d true {n} {c} k = go (ltb c (n - 1)) refl where
+      go : (r : Bool) → ltb c (n - 1) ≡ r → ((if r then 1 else mark) ≡ mark) ↔ (need ≤ suc d)
+      go true q = (λ e. absurd (not-held e), λ h. absurd (omega (arith, k .needs, k .counted, ltb-true c (n - 1) q)))
+      go false q = (λ e. omega (arith, k .needs, k .counted, ltb-false c (n - 1) q), λ h. refl)
+
+    -- a voter, the test of a sample in a state, its N and its count, and what it shows
+    module _
+        {S X T : Type 0} (step : S → X → T) (leaves : T → S) (test : S → X → Bool) (needOf countOf : S → ℕ) (shown : T → ℕ)
+        (counting : (s : S) (x : X) → let t = step s x in
+        Counting mark other (needOf s) (countOf s) (test s x) (ltb (countOf s) (needOf s - 1)) (needOf (leaves t)) (countOf (leaves t)) (shown t))
+      where
+        pub row-shown :
+            (d : ℕ) (s : S) (xs : List X) (i : ℕ) → Counts d (needOf s) (countOf s) → i < length xs
+            → (getD (map shown (trace step leaves s xs)) i 255 ≡ mark) ↔ Full d (tests step leaves test s xs) i
+        unfolding trace tests
+        row-shown d s [] i k h = absurd (let z : i < 0 = h in omega arith)
+        row-shown d s (x ∷ xs) zero k h =
+            let now = marked-full d (test s x) k in
+            let row = row-first d (test s x) (tests step leaves test (leaves (step s x)) xs) in
+            rw (counting s x .marked) (λ e. row .0 (now .0 e), λ f. now .1 (row .1 f))
+        row-shown d s (x ∷ xs) (suc i) k h =
+            let next : Counts (on d (test s x)) (needOf (leaves (step s x))) (countOf (leaves (step s x))) =
+            rw (counting s x .stays, counting s x .counted) (counts-on d (test s x) k) in
+            row-later d (test s x) (tests step leaves test (leaves (step s x)) xs) i
+            (row-shown (on d (test s x)) (leaves (step s x)) xs i next (let z : suc i < suc (length xs) = h in omega arith))

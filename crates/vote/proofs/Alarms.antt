@@ -4,12 +4,12 @@ use mathlib.Core.Path.{_≡_, refl, sym, ap, _∙_}
 use mathlib.Core.Logic.{_↔_}
 use mathlib.Core.List.{List, [], _∷_, map}
 use mathlib.Core.Bool.{Bool, true, false, not}
-use Prim.Native.Nat.{ℕ, zero, suc, _-_, _≤_, _<_, min}
+use Prim.Native.Nat.{ℕ, zero, suc, _-_, _≤_, _<_}
 use native.Mathlib.Omega.{arith}
 use lib.Dec.{ltb}
 use lib.ListN.{length, getD}
-use borrow.Author.Tests.{ltb-true, ltb-false, not-true}
-use Rattle.trace.proofs.Rows.{on, tests, row-shown}
+use borrow.Author.Tests.{not-true}
+use Rattle.trace.proofs.Rows.{tests, Counting, row-shown}
 use Rattle.vote.specs.declared.Vote.{Vote}
 use Rattle.vote.specs.Alarms.{equal, Disagreeing}
 use Rattle.vote.specs.Run.{plain, leaves, steps, shownMark}
@@ -27,27 +27,15 @@ disagreed s (x ∷ xs) (suc j) h =
     let z : suc j < suc (length xs) = h in
     disagreed (leaves (plain s x)) xs j (omega arith)
 
-module _ (need : ℕ) (some : 1 ≤ need) where
-  -- a state in which d samples in a row have disagreed
-  record Counts (d : ℕ) (s : Vote) : Type 0 where
-    needs : s .need ≡ need
-    counted : s .count ≡ min d (need - 1)
-
-  counts-on : (d : ℕ) (s : Vote) (x : ℕ × ℕ) → Counts d s → Counts (on d (disagrees s x)) (leaves (plain s x))
-  unfolding clauses
-  counts-on d s x c = go (equal x) (ltb (s .count) (s .need - 1)) refl where
-    go : (p r : Bool) → ltb (s .count) (s .need - 1) ≡ r → Counts (on d (not p)) (byTests s (x .0) p false r .state)
-    go true r q = record { needs = c .needs; counted = omega arith }
-    go false true q = record { needs = c .needs; counted = omega (arith, c .needs, c .counted, ltb-true (s .count) (s .need - 1) q) }
-    go false false q = record { needs = c .needs; counted = omega (arith, c .needs, c .counted, ltb-false (s .count) (s .need - 1) q) }
-
-  alarms-now : (d : ℕ) (s : Vote) (x : ℕ × ℕ) → Counts d s → (shownMark (plain s x) ≡ 2) ↔ (need ≤ on d (disagrees s x))
-  unfolding clauses
-  alarms-now d s x c = go (equal x) (ltb (s .count) (s .need - 1)) refl where
-    go : (p r : Bool) → ltb (s .count) (s .need - 1) ≡ r → (shownMark (byTests s (x .0) p false r) ≡ 2) ↔ (need ≤ on d (not p))
-    go true r q = (λ e. absurd (omega arith), λ h. absurd (omega arith))
-    go false true q = (λ e. absurd (omega arith), λ h. absurd (omega (arith, c .needs, c .counted, ltb-true (s .count) (s .need - 1) q)))
-    go false false q = (λ e. omega (arith, c .needs, c .counted, ltb-false (s .count) (s .need - 1) q), λ h. refl)
+-- a sample that disagrees is counted; alarm is 2, agreed is 0
+counting : (s : Vote) (x : ℕ × ℕ) → let t = plain s x in
+    Counting 2 0 (s .need) (s .count) (disagrees s x) (ltb (s .count) (s .need - 1)) (t .state .need) (t .state .count) (shownMark t)
+unfolding clauses
+counting s x = go (equal x) (ltb (s .count) (s .need - 1)) where
+  go : (p r : Bool) → let t = byTests s (x .0) p false r in Counting 2 0 (s .need) (s .count) (not p) r (t .state .need) (t .state .count) (shownMark t)
+  go true r = record { stays = refl; counted = refl; marked = refl }
+  go false true = record { stays = refl; counted = refl; marked = refl }
+  go false false = record { stays = refl; counted = refl; marked = refl }
 
 -- the theorem, of every trace from a fresh state; N 0 is refused by every call
 pub alarm-exactly :
@@ -55,7 +43,9 @@ pub alarm-exactly :
     → (getD (map shownMark (steps (fresh n need word) xs)) i 255 ≡ 2) ↔ Disagreeing need xs i
 alarm-exactly n need word some xs i h =
     let s = fresh n need word in
-    let rows = row-shown need some plain leaves disagrees shownMark 2 (Counts need some) (counts-on need some) (alarms-now need some) 0 s xs i (record { needs = refl; counted = omega arith }) h in
+    let rows =
+    row-shown need some 2 0 (λ e. omega arith) (λ e. omega arith) plain leaves disagrees (λ s. s .need) (λ s. s .count) shownMark counting
+    0 s xs i (record { needs = refl; counted = omega arith }) h in
     let at = disagreed s xs in (
       λ e. let f = rows .0 e in record { exist = omega (arith, f .exist); apart = λ j l m. not-true _ (sym (at j (omega arith)) ∙ f .met j l m) },
       λ g. rows .1 (record { exist = omega (arith, g .exist); met = λ j l m. at j (omega arith) ∙ ap not (g .apart j l m) }),
