@@ -29,8 +29,8 @@ use Rattle.reserve.specs.Parts.{tookOver}
 use Rattle.reserve.specs.Reserve.{phaseAfter, clauses}
 use Rattle.reserve.specs.Run.{steps, samplesOf, shownWord, shownMark}
 
-abbrev in-phase : Phase → Vote → Reserve
-in-phase p v = record { phase = p; vote = v }
+abbrev state-in : Phase → Vote → Reserve
+state-in p v = record { phase = p; vote = v }
 
 phase-is : (r : VoteAnswer) → phaseAfter r ≡ (if eqb (markOf r) 2 then TakingOver else Primary)
 phase-is (Agreed w) = refl
@@ -46,7 +46,7 @@ module _ (g : VoteAnswer → ℕ) where
   abbrev ofReserve : ReserveStep → ℕ
   ofReserve t = g (t .answer)
 
-  in-reserve : (v : Vote) (us vs : List (ℕ × ℕ)) → length us ≡ length vs → map ofReserve (steps (in-phase Reserved v) (zip us vs)) ≡ map ofVote (vote.steps v vs)
+  in-reserve : (v : Vote) (us vs : List (ℕ × ℕ)) → length us ≡ length vs → map ofReserve (steps (state-in Reserved v) (zip us vs)) ≡ map ofVote (vote.steps v vs)
   unfolding trace clauses zip zipWith
   in-reserve v [] [] e = refl
   in-reserve v [] (y ∷ vs) e = absurd (let z : 0 ≡ suc (length vs) = e in omega arith)
@@ -55,7 +55,7 @@ module _ (g : VoteAnswer → ℕ) where
       ap (λ (l : List ℕ). g (vote.plain v y .answer) ∷ l)
       (in-reserve (vote.plain v y .state) us vs (let z : suc (length us) ≡ suc (length vs) = e in omega arith))
 
-  taking-over : (v : Vote) (us vs : List (ℕ × ℕ)) → length us ≡ length vs → map ofReserve (steps (in-phase TakingOver v) (zip us vs)) ≡ map ofVote (tookOver v vs)
+  taking-over : (v : Vote) (us vs : List (ℕ × ℕ)) → length us ≡ length vs → map ofReserve (steps (state-in TakingOver v) (zip us vs)) ≡ map ofVote (tookOver v vs)
   unfolding trace clauses zip zipWith tookOver
   taking-over v [] [] e = refl
   taking-over v [] (y ∷ vs) e = absurd (let z : 0 ≡ suc (length vs) = e in omega arith)
@@ -66,7 +66,7 @@ module _ (g : VoteAnswer → ℕ) where
 
   pub in-parts :
       (v : Vote) (us vs : List (ℕ × ℕ)) → length us ≡ length vs → let end = takenBy true v us in
-      map ofReserve (steps (in-phase Primary v) (zip us vs))
+      map ofReserve (steps (state-in Primary v) (zip us vs))
       ≡ map ofVote (vote.steps v (take end us)) ++ map ofVote (tookOver (left vote.plain vote.leaves v (take end us)) (drop end vs))
   unfolding trace left clauses zip zipWith takenBy tookOver
   in-parts v [] [] e = refl
@@ -84,11 +84,11 @@ module _ (g : VoteAnswer → ℕ) where
 
         go :
             (alarm : Bool)
-            → map ofReserve (steps (in-phase TakingOver (first .state)) (zip us vs)) ≡ map ofVote (tookOver (first .state) vs)
-            → map ofReserve (steps (in-phase Primary (first .state)) (zip us vs))
+            → map ofReserve (steps (state-in TakingOver (first .state)) (zip us vs)) ≡ map ofVote (tookOver (first .state) vs)
+            → map ofReserve (steps (state-in Primary (first .state)) (zip us vs))
             ≡ map ofVote (vote.steps (first .state) (take later us)) ++ map ofVote (tookOver (left vote.plain vote.leaves (first .state) (take later us)) (drop later vs))
             → let end = suc (if alarm then 0 else later) in
-            g (first .answer) ∷ map ofReserve (steps (in-phase (if alarm then TakingOver else Primary) (first .state)) (zip us vs))
+            g (first .answer) ∷ map ofReserve (steps (state-in (if alarm then TakingOver else Primary) (first .state)) (zip us vs))
             ≡ map ofVote (vote.steps v (take end (x ∷ us))) ++ map ofVote (tookOver (left vote.plain vote.leaves v (take end (x ∷ us))) (drop end (y ∷ vs)))
         go true over on = ap (λ (l : List ℕ). g (first .answer) ∷ l) over
         go false over on = ap (λ (l : List ℕ). g (first .answer) ∷ l) on
@@ -102,7 +102,7 @@ module _
       let cd : length c ≡ length d = omega arith in
       let alike : length (zip a b) ≡ length (zip c d) = omega (arith, zip-length a b ab, zip-length c d cd) in
       let here : takenBy true (s .vote) (zip a b) ≡ end = omega (arith, p .counted) in
-      let start : in-phase Primary (s .vote) ≡ s = ap (λ (q : Phase). in-phase q (s .vote)) (sym primary) in
+      let start : state-in Primary (s .vote) ≡ s = ap (λ (q : Phase). state-in q (s .vote)) (sym primary) in
       sym (rw (start, here, p .leaving) at (in-parts g (s .vote) (zip a b) (zip c d) alike))
 
   pub words-in-parts : take end words ++ map vote.shownWord (tookOver v (drop end (zip c d))) ≡ map shownWord (steps s (samplesOf a b c d))

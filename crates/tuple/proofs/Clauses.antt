@@ -14,18 +14,24 @@ use Rattle.tuple.specs.declared.Tuple.{Tuple}
 use Rattle.tuple.specs.declared.TupleStep.{TupleStep}
 use Rattle.tuple.specs.declared.Voters.{Voters}
 use Rattle.tuple.specs.Tuple.{width, voteNeed, votersOf, alarm, confirmedAs, confirms, clauses}
-use Rattle.tuple.specs.Answers.{wordOf, markOf}
+use Rattle.tuple.specs.Answers.{numberOf, wordOf, markOf, maskOf}
 use Rattle.tuple.specs.Run.{shownWord, shownMark}
 
 -- the decision, of any test
 abbrev pub byTest : Tuple → Voters → Bool → TupleStep
 byTest s v alarmed = if alarmed then alarm s v else confirms v (confirm.clauses (s .confirm) (v .word))
 
--- what confirmation answers the tuple vote shows as it is
-confirmed-as : (x : ConfirmAnswer) → (wordOf (confirmedAs x) ≡ confirmAnswers.wordOf x) × (markOf (confirmedAs x) ≡ confirmAnswers.markOf x)
-confirmed-as (Confirmed w) = (refl, refl)
-confirmed-as (Held w) = (refl, refl)
-confirmed-as (Refused k) = (refl, refl)
+-- what confirmation answers the tuple vote shows as it is, without a mask
+pub record Same (x : ConfirmAnswer) : Type 0 where
+  pub number : numberOf (confirmedAs x) ≡ confirmAnswers.numberOf x
+  pub word : wordOf (confirmedAs x) ≡ confirmAnswers.wordOf x
+  pub mark : markOf (confirmedAs x) ≡ confirmAnswers.markOf x
+  pub no-mask : maskOf (confirmedAs x) ≡ 0
+
+pub confirmed-as : (x : ConfirmAnswer) → Same x
+confirmed-as (Confirmed w) = record { number = refl; word = refl; mark = refl; no-mask = refl }
+confirmed-as (Held w) = record { number = refl; word = refl; mark = refl; no-mask = refl }
+confirmed-as (Refused k) = record { number = refl; word = refl; mark = refl; no-mask = refl }
 
 module _ (s : Tuple) (a b : ℕ) where
   -- what holds of an alarm and of a confirmation holds of the step
@@ -42,12 +48,12 @@ module _ (s : Tuple) (a b : ℕ) where
   pub shown-stays : shownWord (clauses s a b) ≡ clauses s a b .state .confirm .output
   shown-stays =
       either-way (λ (t : TupleStep). shownWord t ≡ t .state .confirm .output) refl
-      (confirmed-as (confirm.clauses (s .confirm) (votersOf s a b .word) .answer) .0 ∙ confirm-stays (s .confirm) (votersOf s a b .word))
+      (confirmed-as (confirm.clauses (s .confirm) (votersOf s a b .word) .answer) .word ∙ confirm-stays (s .confirm) (votersOf s a b .word))
 
   pub marks-few : shownMark (clauses s a b) ≤ 2
   marks-few =
       either-way (λ (t : TupleStep). shownMark t ≤ 2) (omega arith)
-      (rw (confirmed-as (confirm.clauses (s .confirm) (votersOf s a b .word) .answer) .1) (omega (arith, confirm-marks (s .confirm) (votersOf s a b .word))))
+      (rw (confirmed-as (confirm.clauses (s .confirm) (votersOf s a b .word) .answer) .mark) (omega (arith, confirm-marks (s .confirm) (votersOf s a b .word))))
 
   pub same-sizes : (width (clauses s a b .state) ≡ width s) × (voteNeed (clauses s a b .state) ≡ voteNeed s)
   same-sizes = either-way (λ (t : TupleStep). (width (t .state) ≡ width s) × (voteNeed (t .state) ≡ voteNeed s)) (refl, refl) (confirm-sizes (s .confirm) (votersOf s a b .word))

@@ -1,6 +1,6 @@
 -- Each number of each call is given exactly when its table says so; `Readings` of rules reads the tables out, number by number,
 -- but for a step's last row, 8 (`eight-never`). `new` is `from_word` of the default word.
-use mathlib.Core.Path.{_≡_, refl}
+use mathlib.Core.Path.{_≡_, refl, _∙_}
 use mathlib.Core.Logic.{_↔_}
 use mathlib.Core.List.{List, [], zip}
 use Prim.Native.Nat.{ℕ}
@@ -14,30 +14,25 @@ use Rattle.trace.specs.Answers.{runNumber, runSample, longPair, apartPair}
 use Rattle.trace.specs.declared.RunAnswer.{RunAnswer}
 use Rattle.trace.specs.declared.RunAnswer.the-variants.{Done}
 use Rattle.trace.proofs.Runs as runs
-use Rattle.confirm.specs.Answers.{numberOf as confirmNumber}
-use Rattle.confirm.specs.declared.ConfirmAnswer.{ConfirmAnswer}
-use Rattle.confirm.specs.declared.ConfirmAnswer.the-variants.{Confirmed, Held, Refused}
+use Rattle.confirm.specs.Confirm as confirm
 use Rattle.confirm.proofs.Exactly.{none-refused as confirm-none-refused}
 use Rattle.tuple.specs.declared.Tuple.{Tuple}
 use Rattle.tuple.specs.declared.TupleMade.{TupleMade}
 use Rattle.tuple.specs.declared.TupleStep.{TupleStep}
 use Rattle.tuple.specs.Answers.{numberOf}
-use Rattle.tuple.specs.Tuple.{votersOf, confirmedAs, clauses, made, notMade, madeOf, rowsOf, notTaken, stepOf}
+use Rattle.tuple.specs.Tuple.{votersOf, clauses, made, notMade, madeOf, rowsOf, notTaken, stepOf}
 use Rattle.tuple.specs.Run.{unequal, answerOf}
-use Rattle.tuple.proofs.Clauses.{either-way}
+use Rattle.tuple.proofs.Clauses.{either-way, confirmed-as}
 
 pub from-word-exactly : (n need word k : ℕ) → (madeOf n need word .refusal ≡ k) ↔ Given k (makeRows (badCount need) n word)
 unfolding madeOf numbered
 from-word-exactly n need word = exactly-when (λ (m : TupleMade). m .refusal) (makeRows (badCount need) n word) notMade (made n need word) refl (λ k. refl) refl
 
-same-number : (x : ConfirmAnswer) → numberOf (confirmedAs x) ≡ confirmNumber x
-same-number (Confirmed w) = refl
-same-number (Held w) = refl
-same-number (Refused k) = refl
-
 -- the clauses refuse nothing
 pub none-refused : (s : Tuple) (a b : ℕ) → numberOf (clauses s a b .answer) ≡ 0
-none-refused s a b = either-way s a b (λ (t : TupleStep). numberOf (t .answer) ≡ 0) refl (rw same-number (confirm-none-refused (s .confirm) (votersOf s a b .word)))
+none-refused s a b =
+    either-way s a b (λ (t : TupleStep). numberOf (t .answer) ≡ 0) refl
+    (confirmed-as (confirm.clauses (s .confirm) (votersOf s a b .word) .answer) .number ∙ confirm-none-refused (s .confirm) (votersOf s a b .word))
 
 -- 1, 2, 6, 7 and 8
 pub step-exactly : (s : Tuple) (a b k : ℕ) → (numberOf (stepOf s a b .answer) ≡ k) ↔ Given k (rowsOf s a b)

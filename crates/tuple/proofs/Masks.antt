@@ -11,28 +11,16 @@ use Rattle.rules.specs.Limits.{outside}
 use Rattle.rules.proofs.Signals.{word-bit, word-zero}
 use Rattle.rules.proofs.Width.{lt-inside}
 use Rattle.confirm.specs.Confirm as confirm
-use Rattle.confirm.specs.declared.ConfirmAnswer.{ConfirmAnswer}
-use Rattle.confirm.specs.declared.ConfirmAnswer.the-variants.{Confirmed, Held, Refused}
+use Rattle.confirm.proofs.Clauses.{marks-few as confirm-marks}
 use Rattle.vote.specs.Answers.{markOf}
 use Rattle.vote.specs.Vote as vote
 use Rattle.vote.specs.declared.VoteAnswer.{VoteAnswer}
 use Rattle.vote.specs.declared.VoteAnswer.the-variants.{Agreed as VoteAgreed, Held as VoteHeld, Alarm as VoteAlarm, Refused as VoteRefused}
 use Rattle.tuple.specs.declared.Tuple.{Tuple}
-use Rattle.tuple.specs.Answers.{maskOf, markOf as tupleMark}
 use Rattle.tuple.specs.Run.{shownMask, shownMark}
-use Rattle.tuple.specs.Tuple.{width, voteNeed, voter, alarmBit, votersOf, confirmedAs, clauses}
-use Rattle.tuple.proofs.Clauses.{byTest}
+use Rattle.tuple.specs.Tuple.{width, voteNeed, voter, alarmBit, votersOf, clauses}
+use Rattle.tuple.proofs.Clauses.{byTest, confirmed-as}
 use Rattle.tuple.proofs.Small.{alarm-small, masks-small}
-
-no-mask : (x : ConfirmAnswer) → maskOf (confirmedAs x) ≡ 0
-no-mask (Confirmed w) = refl
-no-mask (Held w) = refl
-no-mask (Refused k) = refl
-
-no-alarm : (x : ConfirmAnswer) → tupleMark (confirmedAs x) ≡ 2 → ⊥
-no-alarm (Confirmed w) e = omega arith
-no-alarm (Held w) e = omega arith
-no-alarm (Refused k) e = omega arith
 
 silent : (v : VoteAnswer) → (alarmBit v ≡ 0) ↔ (markOf v ≡ 2 → ⊥)
 silent (VoteAgreed w) = (λ e m. omega arith, λ h. refl)
@@ -53,7 +41,7 @@ module _ (s : Tuple) (a b : ℕ) where
   mask-shown = go (not (eqb (votersOf s a b .mask) 0)) refl where
     go : (p : Bool) → not (eqb (votersOf s a b .mask) 0) ≡ p → shownMask (byTest s (votersOf s a b) p) ≡ votersOf s a b .mask
     go true e = refl
-    go false e = no-mask (confirm.clauses (s .confirm) (votersOf s a b .word) .answer) ∙ sym (eqb-true (votersOf s a b .mask) 0 (not-false (eqb (votersOf s a b .mask) 0) e))
+    go false e = confirmed-as (confirm.clauses (s .confirm) (votersOf s a b .word) .answer) .no-mask ∙ sym (eqb-true (votersOf s a b .mask) 0 (not-false (eqb (votersOf s a b .mask) 0) e))
 
   -- an alarm is shown exactly when the mask is not zero
   pub mark-exactly : (shownMark (clauses s a b) ≡ 2) ↔ (shownMask (clauses s a b) ≡ 0 → ⊥)
@@ -62,8 +50,8 @@ module _ (s : Tuple) (a b : ℕ) where
     go : (p : Bool) → not (eqb (votersOf s a b .mask) 0) ≡ p → let t = byTest s (votersOf s a b) p in (shownMark t ≡ 2) ↔ (shownMask t ≡ 0 → ⊥)
     go true e = (λ m. eqb-false (votersOf s a b .mask) 0 (not-true (eqb (votersOf s a b .mask) 0) e), λ h. refl)
     go false e =
-        let x = confirm.clauses (s .confirm) (votersOf s a b .word) .answer in
-        (λ m. absurd (no-alarm x m), λ h. absurd (h (no-mask x)))
+        let same = confirmed-as (confirm.clauses (s .confirm) (votersOf s a b .word) .answer) in
+        (λ m. absurd (omega (arith, m, same .mark, confirm-marks (s .confirm) (votersOf s a b .word))), λ h. absurd (h (same .no-mask)))
 
   abbrev vote-of : ℕ → VoteAnswer
   vote-of i = vote.clauses (voter s i) (bit i a) (bit i b) false .answer
