@@ -1,6 +1,7 @@
 // The reader of recordings (document 01, "The recording"): bytes in, the header's values out, and each column into a lent slice.
 mod samples;
 
+use rules::Limits;
 use trace::RunAnswer;
 ghost use mathlib.Core.Path.{_≡_};
 ghost use mathlib.Core.List.{_++_};
@@ -85,7 +86,7 @@ fn head_refusal(bytes: &[u8], lent: bool) -> u32
     let h = read_header(bytes);
     let bad = bad_tag(bytes) | bad_units(h.units);
     let r = rules::or_else(0, 12, bad);
-    rules::or_else(r, 3, h.samples > 2048)
+    rules::or_else(r, 3, h.samples > Limits::SAMPLES as u32)
 }
 
 // Where column k begins: the times are column 0, and unit k is column k.
@@ -224,11 +225,11 @@ pub fn read(
     ensures { λ r. ⌜ Read (now (bytes .entry)) (now (times .entry)) (now (one .entry)) (now (two .entry)) (now (three .entry)) (now (four .entry))
         r (now (times .exit)) (now (one .exit)) (now (two .exit)) (now (three .exit)) (now (four .exit)) ⌝ }
 {
-    let lent = (times.len() != 2048)
-        | (one.len() != 2048)
-        | (two.len() != 2048)
-        | (three.len() != 2048)
-        | (four.len() != 2048);
+    let lent = (times.len() != Limits::SAMPLES)
+        | (one.len() != Limits::SAMPLES)
+        | (two.len() != Limits::SAMPLES)
+        | (three.len() != Limits::SAMPLES)
+        | (four.len() != Limits::SAMPLES);
     let judged = judged(bytes, lent);
     let answer = judged.answer;
     let RunAnswer::Done = answer else {

@@ -6,4 +6,16 @@ use Rattle.confirm_vectors.proofs.answer_call.Statement.{statement}
 use Rattle.confirm_vectors.proofs.answer_call.Tie as tie
 
 pub answer-call-spec : {M : Type 1} → statement M
-answer-call-spec = tie.close (tie.spec (λ _ _. tt) (λ c. search needs) (λ c. simp length-take (omega arith)) (λ _ _. tt) (λ _ _. tt) (λ _ _. tt) (λ c. search needs) (λ c. search needs) (λ c. search needs) (λ c. search needs))
+answer-call-spec =
+    tie.close
+    (tie.spec
+    (λ _ _. tt)
+    (λ c. search needs)
+    (λ c. simp length-take (omega arith))
+    (λ _ _. tt)
+    (λ _ _. tt)
+    (λ _ _. tt)
+    (λ c. search needs)
+    (λ c. search needs)
+    (λ c. search needs)
+    (λ c. search needs))

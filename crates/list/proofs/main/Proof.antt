@@ -6,4 +6,19 @@ use Rattle.list.proofs.main.Statement.{statement}
 use Rattle.list.proofs.main.Tie as tie
 
 pub main-spec : {M : Type 1} → statement M
-main-spec = tie.close (tie.spec (λ _ _. tt) (λ c. search needs) (λ _ _. tt) (λ _ _. tt) (λ c. search needs) (λ c. search needs) (λ c. search needs) (λ _ _. tt) (λ _ _. tt) (λ c. search needs) (λ c. simp length-take (omega arith)) (λ _ _. tt) (λ c. search needs))
+main-spec =
+    tie.close
+    (tie.spec
+    (λ _ _. tt)
+    (λ c. search needs)
+    (λ _ _. tt)
+    (λ _ _. tt)
+    (λ c. search needs)
+    (λ c. search needs)
+    (λ c. search needs)
+    (λ _ _. tt)
+    (λ _ _. tt)
+    (λ c. search needs)
+    (λ c. simp length-take (omega arith))
+    (λ _ _. tt)
+    (λ c. search needs))

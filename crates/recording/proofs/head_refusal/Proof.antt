@@ -22,4 +22,4 @@ returns-3 c =
     by-rows _ refl (rw (c .or-else2 .ensures, c .before .before .or-else .ensures, units .bad-units .ensures, units .before .bad-tag .ensures, head .read-header .ensures, head .before .before .if1 .left, head .before .if2 .left))
 
 pub head-refusal-spec : {M : Type 1} → statement M
-head-refusal-spec = tie.close (tie.spec returns returns-2 (λ c κs. search needs) (λ c κs. search needs) (λ _ _. tt) (λ _ _. tt) (λ _ _. tt) returns-3)
+head-refusal-spec = tie.close (tie.spec returns returns-2 (λ c κs. search needs) (λ c κs. search needs) (λ _ _. tt) (λ _ _. tt) (λ c. search needs) (λ _ _. tt) returns-3)

@@ -14,4 +14,19 @@ abbrev μ-loop : tie.MeasureT-loop
 μ-loop into₀ at₀ into at = length into - at
 
 pub name-spec : {M : Type 1} → statement M
-name-spec = tie.close (tie.spec Inv-loop μ-loop (λ c. search needs) (λ _ _. tt) (λ c. omega arith) (λ c. search needs) (λ c. search needs) (λ c. search needs) (λ c. search needs) (λ c. simp length-set (omega arith)) (λ c. simp length-set (omega arith)) (λ c. omega arith) (λ c. search needs))
+name-spec =
+    tie.close
+    (tie.spec
+    Inv-loop
+    μ-loop
+    (λ c. search needs)
+    (λ _ _. tt)
+    (λ c. omega arith)
+    (λ c. search needs)
+    (λ c. search needs)
+    (λ c. search needs)
+    (λ c. search needs)
+    (λ c. simp length-set (omega arith))
+    (λ c. simp length-set (omega arith))
+    (λ c. omega arith)
+    (λ c. search needs))

@@ -14,4 +14,19 @@ abbrev μ-loop : tie.MeasureT-loop
 μ-loop into₀ at value times next₀ left₀ into next left = left
 
 pub put-run-spec : {M : Type 1} → statement M
-put-run-spec = tie.close (tie.spec Inv-loop μ-loop (λ c. search needs) (λ c. omega arith) (λ c. search needs) (λ c. search needs) (λ c. search needs) (λ c. search needs) (λ c. search needs) (λ c. search needs) (λ c. simp length-set (omega arith)) (λ c. omega arith) (λ c. search needs))
+put-run-spec =
+    tie.close
+    (tie.spec
+    Inv-loop
+    μ-loop
+    (λ c. search needs)
+    (λ c. omega arith)
+    (λ c. search needs)
+    (λ c. search needs)
+    (λ c. search needs)
+    (λ c. search needs)
+    (λ c. search needs)
+    (λ c. search needs)
+    (λ c. simp length-set (omega arith))
+    (λ c. omega arith)
+    (λ c. search needs))

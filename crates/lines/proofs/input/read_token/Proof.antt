@@ -11,4 +11,19 @@ abbrev μ-loop : tie.MeasureT-loop
 μ-loop value₀ digits₀ value digits = 20 - digits
 
 pub read-token-spec : {M : Type 1} → statement M
-read-token-spec = tie.close (tie.spec Inv-loop μ-loop (λ c. search needs) (λ _ _. tt) (λ c. search needs) (λ c. search needs) (λ c. search needs) (λ _ _. tt) (λ c. search needs) (λ c. search needs) (λ c. search needs) (λ _ _. tt) (λ c. search needs))
+read-token-spec =
+    tie.close
+    (tie.spec
+    Inv-loop
+    μ-loop
+    (λ c. search needs)
+    (λ _ _. tt)
+    (λ c. search needs)
+    (λ c. search needs)
+    (λ c. search needs)
+    (λ _ _. tt)
+    (λ c. search needs)
+    (λ c. search needs)
+    (λ c. search needs)
+    (λ _ _. tt)
+    (λ c. search needs))

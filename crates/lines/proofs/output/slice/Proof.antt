@@ -12,4 +12,23 @@ abbrev μ-loop : tie.MeasureT-loop
 μ-loop s at₀ t5 at = length s - at
 
 pub slice-spec : {M : Type 1} → statement M
-slice-spec = tie.close (tie.spec Inv-loop μ-loop (λ _ _. tt) (λ c. search needs) (λ c _. search needs) (λ c. search needs) (λ c. search needs) (λ c. search needs) (λ _ _. tt) (λ c. search needs) (λ _ _. tt) (λ _ _. tt) (λ c. search needs) (λ c. search needs) (λ c. search needs) (λ c. search needs) (λ c. search needs))
+slice-spec =
+    tie.close
+    (tie.spec
+    Inv-loop
+    μ-loop
+    (λ _ _. tt)
+    (λ c. search needs)
+    (λ c _. search needs)
+    (λ c. search needs)
+    (λ c. search needs)
+    (λ c. search needs)
+    (λ _ _. tt)
+    (λ c. search needs)
+    (λ _ _. tt)
+    (λ _ _. tt)
+    (λ c. search needs)
+    (λ c. search needs)
+    (λ c. search needs)
+    (λ c. search needs)
+    (λ c. search needs))

@@ -14,4 +14,18 @@ abbrev μ-loop : tie.MeasureT-loop
 μ-loop s wide₀ at₀ wide at = length s - at
 
 pub widen-to-spec : {M : Type 1} → statement M
-widen-to-spec = tie.close (tie.spec Inv-loop μ-loop (λ c. search needs) (λ c. search needs) (λ _ _. tt) (λ c. search needs) (λ c. search needs) (λ c. search needs) (λ c. search needs) (λ c. simp length-set (omega arith)) (λ c. omega arith) (λ c. search needs))
+widen-to-spec =
+    tie.close
+    (tie.spec
+    Inv-loop
+    μ-loop
+    (λ c. search needs)
+    (λ c. search needs)
+    (λ _ _. tt)
+    (λ c. search needs)
+    (λ c. search needs)
+    (λ c. search needs)
+    (λ c. search needs)
+    (λ c. simp length-set (omega arith))
+    (λ c. omega arith)
+    (λ c. search needs))

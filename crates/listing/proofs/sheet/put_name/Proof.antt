@@ -18,4 +18,21 @@ unfolding bytes
 returns-3 c = rw (c .before .before .before .before .before .enum-told3 .given .1) (written (c .before .before .put-text3 .ensures))
 
 pub put-name-spec : {M : Type 1} → statement M
-put-name-spec = tie.close (tie.spec (λ c. search needs) (λ c. search needs) (λ _ _. tt) (λ c. search needs) (λ c. search needs) (λ _ _. tt) (λ c. search needs) (λ c. search needs) (λ _ _. tt) (λ c. search needs) returns (λ c. search needs) returns-2 (λ c. search needs) returns-3)
+put-name-spec =
+    tie.close
+    (tie.spec
+    (λ c. search needs)
+    (λ c. search needs)
+    (λ _ _. tt)
+    (λ c. search needs)
+    (λ c. search needs)
+    (λ _ _. tt)
+    (λ c. search needs)
+    (λ c. search needs)
+    (λ _ _. tt)
+    (λ c. search needs)
+    returns
+    (λ c. search needs)
+    returns-2
+    (λ c. search needs)
+    returns-3)

@@ -6,4 +6,19 @@ use Rattle.listing_vectors.proofs.listings.list_in.Statement.{statement
 use Rattle.listing_vectors.proofs.listings.list_in.Tie as tie
 
 pub list-in-spec : {M : Type 1} → statement M
-list-in-spec = tie.close (tie.spec (λ _ _. tt) (λ c. search needs) (λ c. simp length-take (omega arith)) (λ _ _. tt) (λ _ _. tt) (λ _ _. tt) (λ c. search needs) (λ c. simp length-take (omega arith)) (λ _ _. tt) (λ _ _. tt) (λ c. search needs) (λ c. search needs) (λ c. search needs))
+list-in-spec =
+    tie.close
+    (tie.spec
+    (λ _ _. tt)
+    (λ c. search needs)
+    (λ c. simp length-take (omega arith))
+    (λ _ _. tt)
+    (λ _ _. tt)
+    (λ _ _. tt)
+    (λ c. search needs)
+    (λ c. simp length-take (omega arith))
+    (λ _ _. tt)
+    (λ _ _. tt)
+    (λ c. search needs)
+    (λ c. search needs)
+    (λ c. search needs))

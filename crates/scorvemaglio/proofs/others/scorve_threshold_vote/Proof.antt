@@ -4,4 +4,13 @@ use Rattle.scorvemaglio.proofs.others.scorve_threshold_vote.Statement.{
 use Rattle.scorvemaglio.proofs.others.scorve_threshold_vote.Tie as tie
 
 pub scorve-threshold-vote-spec : {M : Type 1} → statement M
-scorve-threshold-vote-spec = tie.close (tie.spec (λ c. search needs) (λ c. search needs) (λ c. search needs) (λ c. search needs) (λ _ _. tt) (λ _ _. tt) (λ c. rw (← c .before .vote .ensures) (c .put-vote .ensures)))
+scorve-threshold-vote-spec =
+    tie.close
+    (tie.spec
+    (λ c. search needs)
+    (λ c. search needs)
+    (λ c. search needs)
+    (λ c. search needs)
+    (λ _ _. tt)
+    (λ _ _. tt)
+    (λ c. rw (← c .before .vote .ensures) (c .put-vote .ensures)))

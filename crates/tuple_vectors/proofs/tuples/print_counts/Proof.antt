@@ -12,4 +12,16 @@ abbrev μ-loop : tie.MeasureT-loop
 μ-loop counts i₀ i = 32 - i
 
 pub print-counts-spec : {M : Type 1} → statement M
-print-counts-spec = tie.close (tie.spec Inv-loop μ-loop (λ c. omega arith) (λ c. omega arith) (λ c. omega arith) (λ _ _. tt) (λ c. omega arith) (λ c. omega arith) (λ c. omega arith) (λ c. search needs))
+print-counts-spec =
+    tie.close
+    (tie.spec
+    Inv-loop
+    μ-loop
+    (λ c. omega arith)
+    (λ c. omega arith)
+    (λ c. omega arith)
+    (λ _ _. tt)
+    (λ c. omega arith)
+    (λ c. omega arith)
+    (λ c. omega arith)
+    (λ c. search needs))

@@ -12,4 +12,16 @@ abbrev μ-loop : tie.MeasureT-loop
 μ-loop counts₀ i₀ counts i = 32 - i
 
 pub read-counts-spec : {M : Type 1} → statement M
-read-counts-spec = tie.close (tie.spec Inv-loop μ-loop (λ c. omega arith) (λ _ _. tt) (λ c. omega arith) (λ c. omega arith) (λ c. omega arith) (λ c. omega arith) (λ c. omega arith) (λ c. search needs))
+read-counts-spec =
+    tie.close
+    (tie.spec
+    Inv-loop
+    μ-loop
+    (λ c. omega arith)
+    (λ _ _. tt)
+    (λ c. omega arith)
+    (λ c. omega arith)
+    (λ c. omega arith)
+    (λ c. omega arith)
+    (λ c. omega arith)
+    (λ c. search needs))
