@@ -5,7 +5,7 @@ use mathlib.Core.List.{List, map}
 use mathlib.Core.Bool.{Bool, _||_}
 use lib.ListN.{length}
 use Rattle.rules.specs.Limits.{badCount, tooLong, differ, outside}
-use Rattle.trace.specs.Trace.{trace, left}
+use Rattle.trace.specs.Trace.{trace}
 use Rattle.trace.specs.Answers.{runAnswer, after}
 use Rattle.trace.specs.declared.RunAnswer.{RunAnswer}
 use Rattle.confirm.specs.declared.Confirm.{Confirm}
@@ -32,19 +32,6 @@ steps = trace clauses leaves
 
 abbrev pub publicSteps : Confirm → List ℕ → List ConfirmStep
 publicSteps = trace stepOf leaves
-
--- the loops of a run, from the state s: every slice is as long as the samples, for each sample what its step shows is written, and a
--- state is left
-abbrev pub AsLong : List ℕ → List ℕ → List ℕ → List ℕ → Type 0
-AsLong samples words marks counts = (length samples ≡ length words) × (length samples ≡ length marks) × (length samples ≡ length counts)
-
-pub record Wrote (s : Confirm) (samples words′ marks′ counts′ : List ℕ) : Type 0 where
-  pub words-shown : words′ ≡ map shownWord (steps s samples)
-  pub marks-shown : marks′ ≡ map shownMark (steps s samples)
-  pub counts-shown : counts′ ≡ map shownCount (steps s samples)
-
-abbrev pub leftBy : Confirm → List ℕ → Confirm
-leftBy = left clauses leaves
 
 -- 4: a lent slice has another length than the trace
 abbrev pub unequal : List ℕ → List ℕ → List ℕ → List ℕ → Bool

@@ -5,7 +5,7 @@ ghost use mathlib.Core.Path.{_≡_};
 ghost use lib.ListN.{length, replicate};
 ghost use Rattle.rules.specs.Limits.{differ};
 ghost use Rattle.trace.specs.Samples.{somewhere};
-ghost use Rattle.confirm.specs.Run.{leftBy, AsLong, Wrote};
+ghost use Rattle.confirm.specs.Parts.{AsLong, Wrote, leftBy};
 
 // Some sample is another word than this one; a loop without a branch becomes wide code.
 fn some_other(word: u32, samples: &[u32]) -> bool
