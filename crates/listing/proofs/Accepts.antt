@@ -1,4 +1,4 @@
--- An accepted recording's run is never refused: the run answers Done, and its slices hold what the steps show.
+-- A run over columns that an accepted recording may hold: it answers Done, and its slices hold what the steps show.
 use mathlib.Core.Path.{_≡_, sym, _∙_}
 use mathlib.Core.Bool.{Bool, false}
 use mathlib.Core.List.{List, map, zip}

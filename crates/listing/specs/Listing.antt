@@ -95,7 +95,7 @@ unit s h k = asList (h .samples) (sampleAt s (h .samples) k)
 unfoldable pub refusedText : ℕ → ℕ → List ℕ
 refusedText number sample = bytes "refused " ++ decimal number ++ bytes " at " ++ decimal sample ++ bytes "\n"
 
--- the text of a recording's bytes; the listing program lends the reader slices of 2,048 places
+-- the text of a recording's bytes; the reader is lent slices of 2,048 places
 abbrev pub textFor : RunAnswer → List ℕ → Header → List ℕ
 textFor Done s h = unitsText h (unit s h 1) (unit s h 2) (unit s h 3) (unit s h 4)
 textFor (RunRefused number sample) s h = refusedText number sample

@@ -73,10 +73,10 @@ fn bad_units(units: u32) -> bool
 }
 
 // 4, 12 or 3, or 0: what is known before an offset is looked at.
-fn head_refusal(bytes: &[u8], lent: bool) -> u32
-    ensures { λ r. ⌜ r ≡ first (headRows lent (now (bytes .entry))) ⌝ }
+fn head_refusal(bytes: &[u8], mislent: bool) -> u32
+    ensures { λ r. ⌜ r ≡ first (headRows mislent (now (bytes .entry))) ⌝ }
 {
-    if lent {
+    if mislent {
         return 4;
     }
     let short = bytes.len() < 44;
@@ -144,10 +144,10 @@ fn layout_refusal(bytes: &[u8], h: Header) -> u32
 }
 
 // The table but for its last row: no sample has been read yet.
-fn shape_refusal(bytes: &[u8], lent: bool) -> u32
-    ensures { λ r. ⌜ r ≡ first (shapeRows lent (now (bytes .entry))) ⌝ }
+fn shape_refusal(bytes: &[u8], mislent: bool) -> u32
+    ensures { λ r. ⌜ r ≡ first (shapeRows mislent (now (bytes .entry))) ⌝ }
 {
-    let refusal = head_refusal(bytes, lent);
+    let refusal = head_refusal(bytes, mislent);
     if refusal != 0 {
         return refusal;
     }
@@ -195,10 +195,10 @@ fn refused(number: u32, sample: u32) -> RecordingRead
 }
 
 // The whole table, and the header's values; no slice is touched.
-fn judged(bytes: &[u8], lent: bool) -> RecordingRead
-    ensures { λ r. ⌜ r ≡ readOf lent (now (bytes .entry)) ⌝ }
+fn judged(bytes: &[u8], mislent: bool) -> RecordingRead
+    ensures { λ r. ⌜ r ≡ readOf mislent (now (bytes .entry)) ⌝ }
 {
-    let refusal = shape_refusal(bytes, lent);
+    let refusal = shape_refusal(bytes, mislent);
     if refusal != 0 {
         return refused(refusal, 0);
     }
@@ -225,12 +225,12 @@ pub fn read(
     ensures { λ r. ⌜ Read (now (bytes .entry)) (now (times .entry)) (now (one .entry)) (now (two .entry)) (now (three .entry)) (now (four .entry))
         r (now (times .exit)) (now (one .exit)) (now (two .exit)) (now (three .exit)) (now (four .exit)) ⌝ }
 {
-    let lent = (times.len() != Limits::SAMPLES)
+    let mislent = (times.len() != Limits::SAMPLES)
         | (one.len() != Limits::SAMPLES)
         | (two.len() != Limits::SAMPLES)
         | (three.len() != Limits::SAMPLES)
         | (four.len() != Limits::SAMPLES);
-    let judged = judged(bytes, lent);
+    let judged = judged(bytes, mislent);
     let answer = judged.answer;
     let RunAnswer::Done = answer else {
         return judged;

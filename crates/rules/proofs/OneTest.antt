@@ -1,5 +1,5 @@
--- A step tested at once: the one test is true exactly when no row of its table is, and where it is false the table's number is
--- that of a damaged state.
+-- A step tested at once: the one test is true exactly when no row of its table is, and where it is false the table's number is the
+-- one that it has with its last row, the state's, taken as true.
 use Prim.Native.Nat.{ℕ, _-_}
 use mathlib.Core.Path.{_≡_, refl, sym, _∙_}
 use mathlib.Core.Logic.{dite}

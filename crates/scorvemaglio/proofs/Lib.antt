@@ -1,5 +1,5 @@
 mod Laws
-mod Unique
-mod UniqueOthers
 mod Phases
 mod ReadBack
+mod Unique
+mod UniqueOthers

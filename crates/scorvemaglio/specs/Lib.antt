@@ -1,5 +1,5 @@
 pub mod Lent
+pub mod Others
+pub mod Runs
 pub mod States
 pub mod Voters
-pub mod Runs
-pub mod Others

@@ -1,4 +1,5 @@
--- The first sample that a test marks: one more sample looked at, and that it is the smallest.
+-- The first sample that a test marks, and whether there is one: one more sample looked at, that it is the smallest, and both over several
+-- columns.
 use mathlib.Core.Path.{_≡_, refl, sym, _∙_}
 use mathlib.Core.List.{List, [], _∷_, zip, zipWith}
 use mathlib.Core.Bool.{Bool, true, false, _||_, false≢true}

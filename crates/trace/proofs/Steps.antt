@@ -1,5 +1,6 @@
 -- Two runs are equal where their steps agree on good states and alike samples and a good state stays good. So a run that tests
--- nothing at each sample equals the public steps that test everything, and what no step looks at changes no run.
+-- nothing at each sample equals the public steps that test everything, and what no step looks at changes no run. Then a run's columns,
+-- its length, its parts, a part of its state that steps by itself, and a state that no sample moves.
 use mathlib.Core.Path.{_≡_, refl, ap}
 use mathlib.Core.List.{List, [], _∷_, _++_, map}
 use Prim.Native.Nat.{ℕ, zero, suc, _<_}
@@ -80,12 +81,12 @@ module _ {S X T S′ X′ T′ : Type 0} (step : S → X → T) (next : T → S)
 
 -- where every sample gives the same step, and that step leaves the state as it was, the run is that step all along
 module _ {S X T : Type 0} (step : S → X → T) (next : T → S) (s : S) (t : T) (back : next t ≡ s) (d : X) where
-  pub stands : {A : Type 0} (f : T → A) (xs : List X) → ((i : ℕ) → i < length xs → step s (getD xs i d) ≡ t) → map f (trace step next s xs) ≡ replicate (length xs) (f t)
+  pub unmoved : {A : Type 0} (f : T → A) (xs : List X) → ((i : ℕ) → i < length xs → step s (getD xs i d) ≡ t) → map f (trace step next s xs) ≡ replicate (length xs) (f t)
   unfolding trace
-  stands f [] same = refl
-  stands {A} f (x ∷ xs) same = rw (same 0 (omega arith), back) (ap (λ (l : List A). f t ∷ l) (stands f xs (λ i h. same (suc i) (omega arith))))
+  unmoved f [] same = refl
+  unmoved {A} f (x ∷ xs) same = rw (same 0 (omega arith), back) (ap (λ (l : List A). f t ∷ l) (unmoved f xs (λ i h. same (suc i) (omega arith))))
 
-  pub stands-left : (xs : List X) → ((i : ℕ) → i < length xs → step s (getD xs i d) ≡ t) → left step next s xs ≡ s
+  pub unmoved-left : (xs : List X) → ((i : ℕ) → i < length xs → step s (getD xs i d) ≡ t) → left step next s xs ≡ s
   unfolding left
-  stands-left [] same = refl
-  stands-left (x ∷ xs) same = rw (same 0 (omega arith), back) (stands-left xs (λ i h. same (suc i) (omega arith)))
+  unmoved-left [] same = refl
+  unmoved-left (x ∷ xs) same = rw (same 0 (omega arith), back) (unmoved-left xs (λ i h. same (suc i) (omega arith)))

@@ -10,14 +10,14 @@ use Rattle.recording.proofs.judged.Tie as tie
 returns : tie.Need-returns
 returns c =
     let a = c .before .before .before .before .args in
-    c .refused .ensures ∙ refused-early (a .lent) (a .bytes .now) (c .before .before .shape-refusal .ensures) (c .before .if1 .taken)
+    c .refused .ensures ∙ refused-early (a .mislent) (a .bytes .now) (c .before .before .shape-refusal .ensures) (c .before .if1 .taken)
 
 module _ (c : tie.Else1) where
-  none : let a = c .before .before .before .args in first (shapeRows (a .lent) (a .bytes .now)) ≡ 0
+  none : let a = c .before .before .before .args in first (shapeRows (a .mislent) (a .bytes .now)) ≡ 0
   none = sym (c .before .shape-refusal .ensures) ∙ c .if1 .left
 
-  fine : let a = c .before .before .before .args in Shaped (a .lent) (a .bytes .now)
-  fine = let a = c .before .before .before .args in shaped (a .lent) (a .bytes .now) none
+  fine : let a = c .before .before .before .args in Shaped (a .mislent) (a .bytes .now)
+  fine = let a = c .before .before .before .args in shaped (a .mislent) (a .bytes .now) none
 
 outsider-requires : tie.Need-outsider-requires
 outsider-requires c κs = rw (c .read-header .ensures) (fine (c .before) .laid)
@@ -28,7 +28,7 @@ returns-2 c =
     let a = o .before .before .before .before .before .args in
     let found = rw (o .before .read-header .ensures) at (o .outsider .ensures) in
     let l = rw (o .before .read-header .ensures) at (c .before .if2 .taken) in
-    c .refused2 .ensures ∙ sample-refused (a .lent) (a .bytes .now) (none (o .before .before)) found l
+    c .refused2 .ensures ∙ sample-refused (a .mislent) (a .bytes .now) (none (o .before .before)) found l
 
 returns-3 : tie.Need-returns-3
 returns-3 c =
@@ -36,7 +36,7 @@ returns-3 c =
     let a = o .before .before .before .before .before .args in
     let found = rw (o .before .read-header .ensures) at (o .outsider .ensures) in
     let l = rw (o .before .read-header .ensures) at (c .if2 .left) in
-    rw (o .before .read-header .ensures) (accepted (a .lent) (a .bytes .now) (none (o .before .before)) found l)
+    rw (o .before .read-header .ensures) (accepted (a .mislent) (a .bytes .now) (none (o .before .before)) found l)
 
 pub judged-spec : {M : Type 1} → statement M
 judged-spec = tie.close (tie.spec (λ _ _. tt) (λ _ _. tt) returns (λ c κs. fine c .head .long) outsider-requires (λ _ _. tt) returns-2 returns-3)

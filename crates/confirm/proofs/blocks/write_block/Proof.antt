@@ -10,7 +10,7 @@ use Rattle.rules.proofs.Ranges.{same}
 use Rattle.rules.proofs.Tables.{or-each}
 use Rattle.trace.specs.Samples.{somewhere}
 use Rattle.trace.proofs.Samples.{nowhere}
-use Rattle.trace.proofs.Steps.{stands, stands-left}
+use Rattle.trace.proofs.Steps.{unmoved, unmoved-left}
 use Rattle.confirm.specs.declared.ConfirmAnswer.the-variants.{Confirmed}
 use Rattle.confirm.specs.declared.ConfirmStep.{ConfirmStep}
 use Rattle.confirm.specs.Confirm.{clauses}
@@ -38,11 +38,11 @@ returns-2 c =
     let again : ConfirmStep = record { state = s; answer = Confirmed (s .input) } in
     let each : (i : ℕ) → i < length samples → clauses s (getD samples i 0) ≡ again =
     λ i h. settled s (still .0 .0) (still .0 .1) _ (same _ _ (nowhere (differ (s .input)) samples 0 (still .1) i h)) in (
-      sym (stands-left clauses leaves s again refl 0 samples each),
+      sym (unmoved-left clauses leaves s again refl 0 samples each),
       record {
-        words-shown = worded .fill-numbers .ensures ∙ rw (← start .pre .0) (sym (stands clauses leaves s again refl 0 shownWord samples each));
-        marks-shown = marked .fill-bytes .ensures ∙ rw (← start .pre .1) (sym (stands clauses leaves s again refl 0 shownMark samples each));
-        counts-shown = counted .fill-numbers2 .ensures ∙ rw (← start .pre .2) (sym (stands clauses leaves s again refl 0 shownCount samples each));
+        words-shown = worded .fill-numbers .ensures ∙ rw (← start .pre .0) (sym (unmoved clauses leaves s again refl 0 shownWord samples each));
+        marks-shown = marked .fill-bytes .ensures ∙ rw (← start .pre .1) (sym (unmoved clauses leaves s again refl 0 shownMark samples each));
+        counts-shown = counted .fill-numbers2 .ensures ∙ rw (← start .pre .2) (sym (unmoved clauses leaves s again refl 0 shownCount samples each));
       },
     )
 

@@ -1,4 +1,4 @@
--- `tuple::bad_place` meets its contract: below n by the voters' N, at n and above by zero.
+-- `tuple::signals::bad_place` meets its contract: below n by the voters' N, at n and above by zero.
 use borrow.Author.Tests.{lt-ltb, le-ltb}
 use Rattle.tuple.proofs.signals.bad_place.Statement.{statement}
 use Rattle.tuple.proofs.signals.bad_place.Tie as tie

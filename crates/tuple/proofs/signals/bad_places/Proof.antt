@@ -1,4 +1,4 @@
--- `tuple::bad_places` meets its contract. The invariant: some place below i is bad.
+-- `tuple::signals::bad_places` meets its contract. The invariant: some place below i is bad.
 use mathlib.Core.Path.{_≡_}
 use Prim.Native.Nat.{_≤_, _-_}
 use native.Mathlib.Omega.{arith}

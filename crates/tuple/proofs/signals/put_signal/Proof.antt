@@ -1,4 +1,4 @@
--- `tuple::put_signal` meets its contract: the one and the word below it have no bit in common.
+-- `tuple::signals::put_signal` meets its contract: the one and the word below it have no bit in common.
 use mathlib.Core.Path.{_≡_, _∙_}
 use Prim.Native.Nat.{_*_, _^_}
 use native.Mathlib.Omega.{arith}

@@ -1,4 +1,4 @@
--- `tuple::signal` meets its contract: the word has the one, or not.
+-- `tuple::signals::signal` meets its contract: the word has the one, or not.
 use Rattle.tuple.proofs.Ones.{one-tells}
 use Rattle.tuple.proofs.signals.signal.Statement.{statement}
 use Rattle.tuple.proofs.signals.signal.Tie as tie

@@ -1,4 +1,4 @@
--- `tuple::step_sample` meets its contract: the voters step, or all of them agree, and their counts are zero or set so.
+-- `tuple::signals::step_sample` meets its contract: the voters step, or all of them agree, and their counts are zero or set so.
 use mathlib.Core.Path.{_≡_, ap, _∙_}
 use mathlib.Core.List.{List}
 use Prim.Native.Nat.{ℕ}

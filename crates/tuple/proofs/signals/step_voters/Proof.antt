@@ -1,4 +1,4 @@
--- `tuple::step_voters` meets its contract. The invariant: the signals below i have voted, from the counts as they came.
+-- `tuple::signals::step_voters` meets its contract. The invariant: the signals below i have voted, from the counts as they came.
 use mathlib.Core.Path.{_≡_, refl, _∙_}
 use mathlib.Core.List.{_++_}
 use Prim.Native.Nat.{_≤_, _-_, _^_}

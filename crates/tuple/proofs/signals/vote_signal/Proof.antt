@@ -1,4 +1,4 @@
--- `tuple::vote_signal` meets its contract: the vote's clauses on bit i of each word.
+-- `tuple::signals::vote_signal` meets its contract: the vote's clauses on bit i of each word.
 use Rattle.tuple.proofs.signals.vote_signal.Statement.{statement}
 use Rattle.tuple.proofs.signals.vote_signal.Tie as tie
 

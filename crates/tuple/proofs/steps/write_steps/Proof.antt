@@ -1,4 +1,4 @@
--- `tuple::write_steps` meets its contract. The invariant: each slice is written before i, and the samples from i on give the rest.
+-- `tuple::steps::write_steps` meets its contract. The invariant: each slice is written before i, and the samples from i on give the rest.
 -- The state is one that a step takes, and every count is zero where no voter waits.
 use mathlib.Core.Path.{_≡_, refl}
 use mathlib.Core.Bool.{false}
