@@ -9,7 +9,6 @@ use borrow.Author.Tests.{eq-eqb}
 use Rattle.rules.specs.Choose.{if_then_else_}
 use Rattle.vote.specs.declared.Vote.{Vote}
 use Rattle.vote.specs.declared.VoteStep.{VoteStep}
-use Rattle.vote.specs.declared.VoteAnswer.the-variants.{Agreed}
 use Rattle.vote.specs.Run.{shownWord, shownMark}
 use Rattle.vote.specs.Vote.{agreed, held, alarm, clauses}
 
@@ -35,7 +34,7 @@ module _ (s : Vote) where
     go false false false = x
 
   -- whatever came before, equal words agree
-  pub agrees : (a : ℕ) (reset : Bool) → clauses s a a reset .answer ≡ Agreed a
+  pub agrees : (a : ℕ) (reset : Bool) → clauses s a a reset ≡ agreed s a
   unfolding clauses
   agrees a reset = rw (eq-eqb a a refl)
 

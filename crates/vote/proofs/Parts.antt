@@ -20,16 +20,13 @@ use Rattle.vote.specs.declared.VotePart.{VotePart}
 use Rattle.vote.specs.declared.VoteStep.{VoteStep}
 use Rattle.vote.specs.Parts.{takenBy, part, Parts, Taken}
 use Rattle.vote.specs.Run.{plain, leaves, steps, shownWord, shownMark, unequal}
-use Rattle.vote.specs.Vote.{agreed, clauses}
+use Rattle.vote.specs.Vote.{agreed}
+use Rattle.vote.proofs.Clauses.{agrees}
 
 pub takes-all : (s : Vote) (xs : List (ℕ × ℕ)) → takenBy false s xs ≡ length xs
 unfolding takenBy
 takes-all s [] = refl
 takes-all s (x ∷ xs) = ap suc (takes-all (leaves (plain s x)) xs)
-
-pub agreed-step : (s : Vote) (a b : ℕ) → a ≡ b → agreed s a ≡ plain s (a, b)
-unfolding clauses
-agreed-step s a b e = rw (eq-eqb a b e)
 
 no-alarm : (once : Bool) (m : ℕ) → eqb m 2 ≡ false → once && eqb m 2 ≡ false
 no-alarm true m e = e
@@ -102,7 +99,7 @@ module _ (once : Bool) (s₀ : Vote) (a b : List ℕ) (ab : length a ≡ length 
     pub agreed-taken :
         getD a i 0 ≡ getD b i 0 → i < length a → Taken once s₀ samples words₀ marks₀ i s false words marks
         → Taken once s₀ samples words₀ marks₀ (i + 1) (leaves (agreed s (getD a i 0))) false (set words i (getD a i 0)) (set marks i 0)
-    agreed-taken e h p = rw (← no-alarm once 0 refl) (one-taken (agreed s (getD a i 0)) (getD a i 0) 0 (agreed-step s (getD a i 0) (getD b i 0) e) refl refl h p)
+    agreed-taken e h p = rw (← no-alarm once 0 refl) (one-taken (agreed s (getD a i 0)) (getD a i 0) 0 (rw (← e) (sym (agrees s (getD a i 0) false))) refl refl h p)
 
 -- a part that no alarm ends is the whole run
 module _ (s₀ : Vote) (xs : List (ℕ × ℕ)) (words₀ marks₀ : List ℕ) (end : ℕ) (s : Vote) (words marks : List ℕ) (p : Taken false s₀ xs words₀ marks₀ end s true words marks) where
