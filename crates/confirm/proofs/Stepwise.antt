@@ -2,22 +2,21 @@
 use mathlib.Core.Path.{_≡_, refl, sym, ap, _∙_}
 use mathlib.Core.List.{List, map}
 use mathlib.Core.Bool.{Bool, true, false, not}
-use Prim.Native.Nat.{ℕ, _+_, _-_, _≤_}
+use Prim.Native.Nat.{ℕ, _+_, _-_, _≤_, _<_}
 use native.Mathlib.Omega.{arith}
-use lib.ListN.{length}
+use lib.ListN.{length, getD}
 use lib.Dec.{ltb, eqb}
 use borrow.Author.Tests.{le-ltb, ltb-true}
-use Rattle.rules.specs.Limits.{badCount, badWidth, tooLong, outside}
+use Rattle.rules.specs.Limits.{badCount, badWidth, outside}
 use Rattle.rules.specs.Table.{first}
-use Rattle.rules.proofs.Readings.{Makes, Runs, makes, run-makes}
+use Rattle.rules.proofs.Readings.{Makes, makes, run-makes}
 use Rattle.trace.specs.declared.RunAnswer.the-variants.{Done}
-use Rattle.trace.specs.Samples.{somewhere}
 use Rattle.trace.proofs.Runs.{answer-done}
 use Rattle.trace.proofs.Samples.{nowhere}
 use Rattle.trace.proofs.Steps.{agree}
 use Rattle.confirm.specs.declared.Confirm.{Confirm}
 use Rattle.confirm.specs.Confirm.{fresh, clauses, made, notMade, madeOf, stepOf}
-use Rattle.confirm.specs.Run.{leaves, steps, publicSteps, shownWord, shownMark, shownCount, unequal, answerOf, Ran, Stepwise}
+use Rattle.confirm.specs.Run.{leaves, steps, publicSteps, shownWord, shownMark, shownCount, Ran, Stepwise}
 use Rattle.confirm.proofs.Clauses.{byTests}
 
 -- a state of width n that a step takes
@@ -51,28 +50,25 @@ pub made-fresh : (n need word : ℕ) → Makes (badCount need) n word → madeOf
 unfolding madeOf
 made-fresh n need word = makes (badCount need) n word notMade (made n need word)
 
-module _ (n need word : ℕ) (samples words marks counts : List ℕ) (accepted : answerOf n need word samples words marks counts ≡ Done) where
-  fine : Runs (badCount need) n word (tooLong (length samples)) (unequal samples words marks counts) (somewhere (outside n) samples)
-  fine = answer-done _ _ _ _ _ outside samples accepted
+-- and it is one that a step takes, so on samples inside the width each public step is the clauses
+module _ (n need word : ℕ) (m : Makes (badCount need) n word) where
+  pub fresh-sound : Sound n (fresh n need word)
+  fresh-sound = record { width = refl; counted = m .counted; wide = m .wide; small = omega arith; input-in = m .word-in; output-in = m .word-in }
 
-  start : Sound n (fresh n need word)
-  start = record { width = refl; counted = fine .counted; wide = fine .wide; small = omega arith; input-in = fine .word-in; output-in = fine .word-in }
-
-  -- and each public step is the clauses
-  pub same-steps : steps (fresh n need word) samples ≡ publicSteps (madeOf n need word .state) samples
-  same-steps =
-      rw (made-fresh n need word (run-makes _ _ _ _ _ _ fine))
-      (agree clauses stepOf leaves (Sound n) (λ (x : ℕ). outside n x ≡ false) (step-is-clauses n) (sound-next n) 0
-      (fresh n need word) samples start (nowhere (outside n) samples 0 (fine .samples-in)))
+  pub same-steps : (xs : List ℕ) → ((i : ℕ) → i < length xs → outside n (getD xs i 0) ≡ false) → steps (fresh n need word) xs ≡ publicSteps (madeOf n need word .state) xs
+  same-steps xs inside =
+      rw (made-fresh n need word m)
+      (agree clauses stepOf leaves (Sound n) (λ (x : ℕ). outside n x ≡ false) (step-is-clauses n) (sound-next n) 0 (fresh n need word) xs fresh-sound inside)
 
 pub run-is-steps :
     (n need word : ℕ) (samples words marks counts words′ marks′ counts′ : List ℕ)
     → Ran n need word samples words marks counts Done words′ marks′ counts′ → Stepwise n need word samples words′ marks′ counts′
 run-is-steps n need word samples words marks counts words′ marks′ counts′ ran =
-    let f = fine n need word samples words marks counts (sym (ran .answered)) in
-    let same = same-steps n need word samples words marks counts (sym (ran .answered)) in
+    let fine = answer-done _ _ _ _ _ outside samples (sym (ran .answered)) in
+    let m = run-makes _ _ _ _ _ _ fine in
+    let same = same-steps n need word m samples (nowhere (outside n) samples 0 (fine .samples-in)) in
     record {
-      made = rw (made-fresh n need word (run-makes _ _ _ _ _ _ f));
+      made = rw (made-fresh n need word m);
       words-same = ran .words-after ∙ ap (map shownWord) same;
       marks-same = ran .marks-after ∙ ap (map shownMark) same;
       counts-same = ran .counts-after ∙ ap (map shownCount) same;

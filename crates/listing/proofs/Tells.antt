@@ -8,8 +8,9 @@ use native.Mathlib.Omega.{arith}
 use lib.Dec.{eqb}
 use borrow.Author.Tests.{ltb-false, eqb-true, eqb-false, eq-eqb, ne-eqb}
 use Rattle.rules.specs.Choose.{if_then_else_}
-use Rattle.rules.specs.Limits.{outside}
+use Rattle.rules.specs.Limits.{badCount, outside}
 use Rattle.rules.specs.Table.{first}
+use Rattle.rules.proofs.Readings.{Makes}
 use Rattle.rules.proofs.Signals.{list-length}
 use Rattle.rules.proofs.Tables.{own-number, allUpTo, first-most}
 use Rattle.trace.specs.Answers.{runNumber, runSample, notRun}
@@ -86,20 +87,20 @@ module _ (s : List ℕ) (done : readOf false s .answer ≡ Done) where
   run : Runnable h
   run = runnable s ok
 
-  start : tupleSteps.Sound (h .n) (tuple.fresh (h .n) (h .need) (h .word))
-  start = tupleSteps.fresh-sound (h .n) (h .need) (h .word) (run .counted) (run .wide) (run .word-in)
+  made : Makes (badCount (h .need)) (h .n) (h .word)
+  made = record { counted = run .counted; wide = run .wide; word-in = run .word-in }
 
   one-listable : (x : Column h (unit s h 1)) → Listable (confirmTable h (unit s h 1))
   one-listable x =
       run-listable confirm.clauses confirmRun.leaves (confirmSteps.Sound (h .n)) (λ (w : ℕ). outside (h .n) w ≡ false) (confirmSteps.sound-next (h .n)) 0
       h run Confirm confirmRun.shownWord confirmRun.shownMark confirmRun.shownCount (confirm-tells (h .n))
-      (confirm.fresh (h .n) (h .need) (h .word)) (unit s h 1) (start .confirm-sound) (nowhere (outside (h .n)) (unit s h 1) 0 (x .inside)) (x .whole)
+      (confirm.fresh (h .n) (h .need) (h .word)) (unit s h 1) (confirmSteps.fresh-sound (h .n) (h .need) (h .word) made) (nowhere (outside (h .n)) (unit s h 1) 0 (x .inside)) (x .whole)
 
   two-listable : (x : Column h (unit s h 1)) (y : Column h (unit s h 2)) → Listable (pairTable h (unit s h 1) (unit s h 2))
   two-listable x y =
       run-listable tupleRun.stepped tupleRun.leaves (tupleSteps.Sound (h .n)) (λ (w : ℕ × ℕ). Unit {0}) (λ t w g f. tupleSteps.sound-next (h .n) t g (w .0) (w .1)) (0, 0)
       h run Pair tupleRun.shownWord tupleRun.shownMark tupleRun.shownMask (λ t w g f. tuple-tells (h .n) t (w .0) (w .1) g)
-      (tuple.fresh (h .n) (h .need) (h .word)) (zip (unit s h 1) (unit s h 2)) start (λ i l. tt) (two-long (unit s h 1) (unit s h 2) (x .whole) (y .whole))
+      (tuple.fresh (h .n) (h .need) (h .word)) (zip (unit s h 1) (unit s h 2)) (tupleSteps.fresh-sound (h .n) (h .need) (h .word) made) (λ i l. tt) (two-long (unit s h 1) (unit s h 2) (x .whole) (y .whole))
 
   four-listable :
       (units : (Column h (unit s h 1)) × (Column h (unit s h 2)) × (Column h (unit s h 3)) × (Column h (unit s h 4)))
@@ -109,7 +110,7 @@ module _ (s : List ℕ) (done : readOf false s .answer ≡ Done) where
       run-listable reserveRun.stepped reserveRun.leaves (λ (t : ReserveState). voteSteps.Sound (h .n) (t .vote)) (λ (w : reserveRun.Sample). outsideFour (h .n) w ≡ false) (reserveSteps.sound-next (h .n)) ((0, 0), (0, 0))
       h run Reserve reserveRun.shownWord reserveRun.shownMark shownPair (reserve-tells (h .n))
       (reserve.fresh (h .n) (h .need) (h .word)) xs
-      (record { width = refl; counted = run .counted; wide = run .wide; small = omega arith; word-in = run .word-in })
+      (voteSteps.fresh-sound (h .n) (h .need) (h .word) made)
       (nowhere (outsideFour (h .n)) xs ((0, 0), (0, 0)) (four-in h run units))
       (four-long (unit s h 1) (unit s h 2) (unit s h 3) (unit s h 4) (units .0 .whole) (units .1 .whole) (units .2 .whole) (units .3 .whole))
 

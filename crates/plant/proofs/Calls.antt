@@ -1,5 +1,5 @@
 -- Demand 3 of the calls: what `confirm::run` leaves in the lent slice, and what the public steps answer from a fresh state.
-use mathlib.Core.Path.{_≡_, refl, sym, _∙_}
+use mathlib.Core.Path.{_≡_, sym, _∙_}
 use mathlib.Core.List.{List, map}
 use mathlib.Core.Bool.{false}
 use Prim.Native.Nat.{ℕ, _≤_}
@@ -16,10 +16,9 @@ use Rattle.trace.specs.Samples.{somewhere}
 use Rattle.trace.specs.declared.RunAnswer.the-variants.{Done}
 use Rattle.trace.proofs.Runs.{done-when}
 use Rattle.trace.proofs.Samples.{nowhere-if}
-use Rattle.trace.proofs.Steps.{agree}
-use Rattle.confirm.specs.Confirm.{clauses, madeOf, stepOf}
-use Rattle.confirm.specs.Run.{leaves, steps, publicSteps, shownWord, unequal, answerOf}
-use Rattle.confirm.proofs.Stepwise.{Sound, made-fresh, step-is-clauses, sound-next}
+use Rattle.confirm.specs.Confirm.{madeOf}
+use Rattle.confirm.specs.Run.{steps, publicSteps, shownWord, unequal, answerOf}
+use Rattle.confirm.proofs.Stepwise.{same-steps}
 use Rattle.confirm.proofs.run.Reads as run
 use Rattle.plant.specs.Plant.{Watch, freshOf, There, Formed, Observed, TrulyShown, outputs}
 use Rattle.plant.specs.Calls.{Means, RunOn}
@@ -47,22 +46,9 @@ module _ (w : Watch) (o : Observed w) (counted : badCount (w .need) ≡ false) (
     word-in = lt-inside (w .n) (w .initial) (rw (o .rests 0 (omega arith)) at (o .fits 0));
   }
 
-  sound : Sound (w .n) (freshOf w)
-  sound = record {
-    width = refl;
-    counted = none-refused .counted;
-    wide = none-refused .wide;
-    small = omega arith;
-    input-in = none-refused .word-in;
-    output-in = none-refused .word-in;
-  }
-
   -- the public steps from the state that it made are the clauses, so none is refused
   pub public-steps : publicSteps (madeOf (w .n) (w .need) (w .initial) .state) (w .samples) ≡ steps (freshOf w) (w .samples)
-  public-steps =
-      rw (made-fresh (w .n) (w .need) (w .initial) none-refused)
-      (sym (agree clauses stepOf leaves (Sound (w .n)) (λ (x : ℕ). outside (w .n) x ≡ false) (step-is-clauses (w .n)) (sound-next (w .n)) 0
-      (freshOf w) (w .samples) sound (samples-inside w (o .formed))))
+  public-steps = sym (same-steps (w .n) (w .need) (w .initial) none-refused (w .samples) (samples-inside w (o .formed)))
 
   pub steps-shown : TrulyShown w (map shownWord (publicSteps (madeOf (w .n) (w .need) (w .initial) .state) (w .samples)))
   steps-shown = rw public-steps (truly-shown w o)

@@ -4,12 +4,13 @@ use Prim.Native.Nat.{ℕ, _-_}
 use mathlib.Core.Path.{_≡_, refl, sym, _∙_}
 use mathlib.Core.Logic.{dite}
 use mathlib.Core.List.{List, [], _∷_}
-use mathlib.Core.Bool.{Bool, true, false, not, _&&_, _||_, or-true, true≢false}
+use mathlib.Core.Bool.{Bool, true, false, not, _&&_, _||_, or-true}
 use native.Mathlib.Decide.{decLt}
 use native.Mathlib.Omega.{arith}
 use lib.Bits.{bitOr}
 use lib.Dec.{ltb, leb, eqb}
 use borrow.Author.Tests.{ltb-true, ltb-false, leb-true, leb-false, lt-ltb, le-ltb, eq-eqb, ne-eqb}
+use Rattle.rules.specs.Choose.{if_then_else_}
 use Rattle.rules.specs.Limits.{badCount, badWidth, outside}
 use Rattle.rules.specs.Table.{Row, _when_, first, answer, orElse}
 use Rattle.rules.specs.Refusals.{stepRows, admits}
@@ -66,33 +67,24 @@ more false false false true p = refl
 more false false false false true = refl
 more false false false false false = refl
 
-more-tests : (m w o d p : Bool) → eqb (first (fourRows m w o d)) 0 && not p ≡ eqb (first (fourRows m w o (d || p))) 0
-unfolding first
-more-tests true w o d p = refl
-more-tests false true o d p = refl
-more-tests false false true d p = refl
-more-tests false false false true p = refl
-more-tests false false false false true = refl
-more-tests false false false false false = refl
-
-damaged : (m w o d : Bool) → eqb (first (fourRows m w o d)) 0 ≡ false → first (fourRows m w o d) ≡ first (fourRows m w o true)
-unfolding first
-damaged true w o d e = refl
-damaged false true o d e = refl
-damaged false false true d e = refl
-damaged false false false true e = refl
-damaged false false false false e = absurd (true≢false e)
+-- a number stays where there is one, and one more reason gives none where it is false
+more-tests : (r : ℕ) (p : Bool) → eqb (orElse r 7 p) 0 ≡ eqb r 0 && not p
+more-tests r p = go (eqb r 0) p refl where
+  go : (z p : Bool) → eqb r 0 ≡ z → eqb (if z then (if p then 7 else 0) else r) 0 ≡ z && not p
+  go true true e = refl
+  go true false e = refl
+  go false p e = e
 
 module _ (m : Bool) (n : ℕ) (o d : Bool) where
   pub one-reason-more : (p : Bool) → orElse (first (stepRows m n o d)) 7 p ≡ first (stepRows m n o (d || p))
   one-reason-more = more m (badWidth n) o d
 
   pub one-test-more : (p : Bool) → eqb (first (stepRows m n o d)) 0 && not p ≡ eqb (first (stepRows m n o (d || p))) 0
-  one-test-more = more-tests m (badWidth n) o d
+  one-test-more p = sym (more-tests (first (stepRows m n o d)) p) ∙ rw (one-reason-more p)
 
   -- the number of a step that is not taken
   pub refused-number : eqb (first (stepRows m n o d)) 0 ≡ false → first (stepRows m n o d) ≡ first (stepRows m n o true)
-  refused-number = damaged m (badWidth n) o d
+  refused-number e = rw (e, or-true) at (one-reason-more true)
 
 -- the sample's words in one and the state's in another; `o` and `d` are what the table asks of them
 module _ (n need count sample stored : ℕ) {o d : Bool} (outlying : outside n sample ≡ o) (spoilt : ltb (need - 1) count || outside n stored ≡ d) where

@@ -1,11 +1,12 @@
 -- A loop fills a lent slice: what stands before i is written, and the samples from i on give the rest.
-use mathlib.Core.Path.{_≡_, sym, _∙_}
+use mathlib.Core.Path.{_≡_, sym, ap, _∙_}
 use mathlib.Core.List.{List, _++_, map, append-assoc, append-nil, map-append}
 use Prim.Native.Nat.{ℕ, _+_, _-_, _<_, _≤_}
 use native.Mathlib.Numerals.{add-one}
 use native.Mathlib.Omega.{arith}
-use lib.ListN.{length, getD, take, drop, set, length-append, length-map, length-drop, length-set, drop-of-length-le, take-append-drop}
+use lib.ListN.{length, getD, take, drop, set, replicate, length-append, length-map, length-drop, length-set, drop-of-length-le, take-append-drop}
 use lib.Seq.{drop-cons, take-suc-set, take-all, take-at, length-take-le}
+use borrow.Author.Fill.{fill-more}
 use borrow.Rule.Slice.PartMut.{putMid, post-is, same-len-mid, mid-len}
 use Rattle.trace.specs.Trace.{trace, left}
 use Rattle.trace.proofs.Steps.{trace-append, trace-length}
@@ -63,3 +64,16 @@ module _ {S X T : Type 0} (step : S → X → T) (next : T → S) (s₀ : S) (xs
   pub gone : length xs ≤ i → Goes step next s₀ xs i s → s ≡ left step next s₀ xs
   unfolding left
   gone h e = simp (drop-of-length-le xs h) at e
+
+-- a loop that stores one value at every place
+abbrev pub Stored : ℕ → List ℕ → List ℕ → ℕ → Type 0
+Stored v l₀ l i = (i ≤ length l₀) × (length l ≡ length l₀) × (l ≡ replicate i v ++ drop i l₀)
+
+module _ (v : ℕ) (l₀ l : List ℕ) (i : ℕ) where
+  pub stored-turn : i < length l → Stored v l₀ l i → Stored v l₀ (set l i v) (i + 1)
+  stored-turn h (up, long, so-far) = (omega arith, length-set l i v ∙ long, ap (λ (s : List ℕ). set s i v) so-far ∙ fill-more i v l₀ (omega arith))
+
+  pub stored : length l ≤ i → Stored v l₀ l i → l ≡ replicate (length l₀) v
+  stored h (up, long, so-far) =
+      let all : i ≡ length l₀ = omega arith in
+      so-far ∙ rw (all, drop-of-length-le l₀ {i = length l₀} (omega arith), append-nil)

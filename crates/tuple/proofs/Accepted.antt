@@ -9,7 +9,7 @@ use lib.ListN.{length, getD}
 use borrow.Author.Tests.{ltb-false}
 use Rattle.rules.specs.Limits.{badCount, tooLong, outside}
 use Rattle.rules.proofs.Ranges.{same}
-use Rattle.rules.proofs.Readings.{Runs}
+use Rattle.rules.proofs.Readings.{Runs, run-makes}
 use Rattle.rules.proofs.Tables.{or-neither, or-each}
 use Rattle.trace.specs.Answers.{longPair, apartPair}
 use Rattle.trace.specs.Samples.{somewhere, outsidePair}
@@ -43,7 +43,7 @@ module _ (n need word : ℕ) (a b words masks marks : List ℕ) (accepted : answ
         words-long = all .1 .0 .0;
         masks-long = all .1 .0 .1;
         marks-long = all .1 .1;
-        start-sound = fresh-sound n need word (fine .counted) (fine .wide) (fine .word-in);
+        start-sound = fresh-sound n need word (run-makes _ _ _ _ _ _ fine);
         first-inside = λ i l.
             let none = nowhere (outsidePair n) (zip a b) (0, 0) (fine .samples-in) i (omega (arith, zip-length a b (all .0))) in
             or-neither (outside n (getD a i 0)) (outside n (getD b i 0)) (ap (outsidePair n) (sym (zip-at a b i 0 0 l (all .0))) ∙ none) .0;

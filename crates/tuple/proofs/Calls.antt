@@ -38,5 +38,5 @@ pub fresh-taken :
 unfolding madeOf
 fresh-taken n need word a b e inside =
     let m = accepted (badCount need) n word (λ (m : TupleMade). m .refusal) notMade (made n need word) (λ k. refl) refl e in
-    let g = fresh-sound n need word (m .counted) (m .wide) (m .word-in) in
+    let g = fresh-sound n need word m in
     rw (made-fresh n need word m, step-is-clauses n (fresh n need word) a b g inside) (none-refused (fresh n need word) a b)

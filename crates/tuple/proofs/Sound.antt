@@ -8,14 +8,15 @@ use lib.ListN.{getD, replicate}
 use borrow.Author.Tests.{le-ltb, lt-ltb, ltb-true, ltb-false}
 use Rattle.rules.specs.Bits.{bit}
 use Rattle.rules.specs.Choose.{if_then_else_}
-use Rattle.rules.specs.Limits.{badCount, badWidth, outside}
+use Rattle.rules.specs.Limits.{badCount, outside}
 use Rattle.rules.proofs.Ranges.{width-range}
+use Rattle.rules.proofs.Readings.{Makes}
 use Rattle.rules.proofs.Signals.{bit-small, none-below, not-at, place-below, place-above}
 use Rattle.rules.proofs.Width.{lt-inside}
 use Rattle.confirm.proofs.Clauses.{same-sizes as confirm-sizes}
-use Rattle.confirm.proofs.Stepwise as confirmed
+use Rattle.confirm.proofs.Stepwise as confirmSteps
 use Rattle.vote.proofs.Clauses.{same-sizes as vote-sizes}
-use Rattle.vote.proofs.Stepwise as votes
+use Rattle.vote.proofs.Stepwise as voteSteps
 use Rattle.tuple.specs.declared.Tuple.{Tuple}
 use Rattle.tuple.specs.declared.TupleStep.{TupleStep}
 use Rattle.tuple.specs.Tuple.{width, voteNeed, fresh, voter, signalVote, votersOf, badPlace, badPlaces, badState, clauses}
@@ -23,7 +24,7 @@ use Rattle.tuple.proofs.Clauses.{either-way}
 use Rattle.tuple.proofs.Small.{words-small, zeros}
 
 pub record Sound (n : ℕ) (s : Tuple) : Type 0 where
-  pub confirm-sound : confirmed.Sound n (s .confirm)
+  pub confirm-sound : confirmSteps.Sound n (s .confirm)
   pub places : badPlaces n (voteNeed s) (s .counts) ≡ false
   pub agreed-in : outside n (s .agreed) ≡ false
 
@@ -49,7 +50,7 @@ module _ (n : ℕ) (s : Tuple) (g : Sound n s) where
   pub above-zero : (k : ℕ) → n ≤ k → k < 32 → getD (s .counts) k 0 ≡ 0
   above-zero k l m = omega (arith, ltb-false 0 (getD (s .counts) k 0) (rw (le-ltb k n l) at (old k m)))
 
-  pub voter-sound : (i : ℕ) → i < n → votes.Sound 1 (voter s i)
+  pub voter-sound : (i : ℕ) → i < n → voteSteps.Sound 1 (voter s i)
   voter-sound i l =
       let o : ltb (voteNeed s - 1) (getD (s .counts) i 0) ≡ false = rw (lt-ltb i n l) at (old i (omega (arith, within-32))) in
       record { width = refl; counted = g .confirm-sound .counted; wide = refl; small = ltb-false (voteNeed s - 1) (getD (s .counts) i 0) o; word-in = bit-inside i (s .agreed) }
@@ -59,7 +60,7 @@ module _ (n : ℕ) (s : Tuple) (g : Sound n s) where
   place-next a b i l true e =
       let q = ltb-true i n e in
       let f = signalVote (voteNeed s) (s .agreed) (s .counts) a b in
-      let next = votes.sound-next 1 (voter s i) (bit i a) (bit i b) false (voter-sound i q) (rw (bit-inside i a, bit-inside i b)) in
+      let next = voteSteps.sound-next 1 (voter s i) (bit i a) (bit i b) false (voter-sound i q) (rw (bit-inside i a, bit-inside i b)) in
       let need = vote-sizes (voter s i) (bit i a) (bit i b) false .1 in
       rw (g .confirm-sound .width, place-below (λ k. f k .state .count) (s .counts) n i q, e) (le-ltb _ _ (rw need at (next .small)))
   place-next a b i l false e =
@@ -77,18 +78,18 @@ module _ (n : ℕ) (s : Tuple) (g : Sound n s) where
       either-way s a b (λ (t : TupleStep). Sound n (t .state))
       (record { confirm-sound = g .confirm-sound; places = places-next a b; agreed-in = word-next a b })
       (record {
-        confirm-sound = confirmed.sound-next n (s .confirm) (votersOf s a b .word) (g .confirm-sound) (word-next a b);
+        confirm-sound = confirmSteps.sound-next n (s .confirm) (votersOf s a b .word) (g .confirm-sound) (word-next a b);
         places = rw (confirm-sizes (s .confirm) (votersOf s a b .word) .1) (places-next a b);
         agreed-in = word-next a b;
       })
 
 -- a fresh state is one
-pub fresh-sound : (n need word : ℕ) → badCount need ≡ false → badWidth n ≡ false → outside n word ≡ false → Sound n (fresh n need word)
-fresh-sound n need word c w o =
+pub fresh-sound : (n need word : ℕ) → Makes (badCount need) n word → Sound n (fresh n need word)
+fresh-sound n need word m =
     record {
-      confirm-sound = record { width = refl; counted = c; wide = w; small = omega arith; input-in = o; output-in = o };
+      confirm-sound = confirmSteps.fresh-sound n need word m;
       places = none-below (λ i. badPlace n need (getD (replicate 32 0) i 0) i) 32 (λ i l. go i (ltb i n));
-      agreed-in = o;
+      agreed-in = m .word-in;
     }
   where
     go : (i : ℕ) (p : Bool) → (if p then ltb (need - 1) (getD (replicate 32 0) i 0) else ltb 0 (getD (replicate 32 0) i 0)) ≡ false

@@ -2,23 +2,23 @@
 use mathlib.Core.Path.{_≡_, refl, sym, ap, _∙_}
 use mathlib.Core.List.{List, map, zip}
 use mathlib.Core.Bool.{Bool, true, false, _||_}
-use Prim.Native.Nat.{ℕ, _+_, _-_, _≤_}
+use Prim.Native.Nat.{ℕ, _+_, _-_, _≤_, _<_}
 use native.Mathlib.Omega.{arith}
 use lib.Dec.{ltb, eqb}
+use lib.ListN.{length, getD}
 use borrow.Author.Tests.{le-ltb, ltb-true}
 use Rattle.rules.specs.Limits.{badCount, badWidth, outside}
 use Rattle.rules.specs.Table.{first}
-use Rattle.rules.proofs.Readings.{Makes, Runs, makes, run-makes}
+use Rattle.rules.proofs.Readings.{Makes, makes, run-makes}
 use Rattle.rules.proofs.Tables.{or-neither}
-use Rattle.trace.specs.Answers.{longPair, apartPair}
 use Rattle.trace.specs.declared.RunAnswer.the-variants.{Done}
-use Rattle.trace.specs.Samples.{somewhere, outsidePair}
+use Rattle.trace.specs.Samples.{outsidePair}
 use Rattle.trace.proofs.Runs.{answer-done}
 use Rattle.trace.proofs.Samples.{nowhere}
 use Rattle.trace.proofs.Steps.{agree}
 use Rattle.vote.specs.declared.Vote.{Vote}
 use Rattle.vote.specs.Vote.{fresh, clauses, made, notMade, madeOf, stepOf}
-use Rattle.vote.specs.Run.{leaves, plain, publicPlain, steps, publicSteps, shownWord, shownMark, unequal, answerOf, Ran, Stepwise}
+use Rattle.vote.specs.Run.{leaves, plain, publicPlain, steps, publicSteps, shownWord, shownMark, Ran, Stepwise}
 use Rattle.vote.proofs.Clauses.{byTests}
 
 -- a state of width n that a step takes
@@ -52,29 +52,28 @@ pub made-fresh : (n need word : ℕ) → Makes (badCount need) n word → madeOf
 unfolding madeOf
 made-fresh n need word = makes (badCount need) n word notMade (made n need word)
 
-module _ (n need word : ℕ) (a b words marks : List ℕ) (accepted : answerOf n need word a b words marks ≡ Done) where
-  fine : Runs (badCount need) n word (longPair a b) (apartPair a b (unequal a words marks)) (somewhere (outsidePair n) (zip a b))
-  fine = answer-done _ _ _ _ _ outsidePair (zip a b) accepted
+-- and it is one that a step takes, so on samples inside the width each public step is the clauses
+module _ (n need word : ℕ) (m : Makes (badCount need) n word) where
+  pub fresh-sound : Sound n (fresh n need word)
+  fresh-sound = record { width = refl; counted = m .counted; wide = m .wide; small = omega arith; word-in = m .word-in }
 
-  start : Sound n (fresh n need word)
-  start = record { width = refl; counted = fine .counted; wide = fine .wide; small = omega arith; word-in = fine .word-in }
-
-  -- and each public step is the clauses
-  pub same-steps : steps (fresh n need word) (zip a b) ≡ publicSteps (madeOf n need word .state) (zip a b)
-  same-steps =
-      rw (made-fresh n need word (run-makes _ _ _ _ _ _ fine))
+  same-steps :
+      (xs : List (ℕ × ℕ)) → ((i : ℕ) → i < length xs → outsidePair n (getD xs i (0, 0)) ≡ false)
+      → steps (fresh n need word) xs ≡ publicSteps (madeOf n need word .state) xs
+  same-steps xs inside =
+      rw (made-fresh n need word m)
       (agree plain publicPlain leaves (Sound n) (λ (x : ℕ × ℕ). outsidePair n x ≡ false)
-      (λ s x. step-is-clauses n s (x .0) (x .1) false) (λ s x. sound-next n s (x .0) (x .1) false) (0, 0)
-      (fresh n need word) (zip a b) start (nowhere (outsidePair n) (zip a b) (0, 0) (fine .samples-in)))
+      (λ s x. step-is-clauses n s (x .0) (x .1) false) (λ s x. sound-next n s (x .0) (x .1) false) (0, 0) (fresh n need word) xs fresh-sound inside)
 
 pub run-is-steps :
     (n need word : ℕ) (a b words marks words′ marks′ : List ℕ)
     → Ran n need word a b words marks Done words′ marks′ → Stepwise n need word a b words′ marks′
 run-is-steps n need word a b words marks words′ marks′ ran =
-    let f = fine n need word a b words marks (sym (ran .answered)) in
-    let same = same-steps n need word a b words marks (sym (ran .answered)) in
+    let fine = answer-done _ _ _ _ _ outsidePair (zip a b) (sym (ran .answered)) in
+    let m = run-makes _ _ _ _ _ _ fine in
+    let same = same-steps n need word m (zip a b) (nowhere (outsidePair n) (zip a b) (0, 0) (fine .samples-in)) in
     record {
-      made = rw (made-fresh n need word (run-makes _ _ _ _ _ _ f));
+      made = rw (made-fresh n need word m);
       words-same = ran .words-after ∙ ap (map shownWord) same;
       marks-same = ran .marks-after ∙ ap (map shownMark) same;
     }
