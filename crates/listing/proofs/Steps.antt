@@ -21,7 +21,7 @@ use Rattle.tuple.specs.Run as tupleRun
 use Rattle.tuple.specs.declared.Tuple.{Tuple}
 use Rattle.tuple.proofs.Clauses as tupleClauses
 use Rattle.tuple.proofs.Masks.{mask-inside}
-use Rattle.tuple.proofs.Sound as tupleSteps
+use Rattle.tuple.proofs.Sound as tupleSound
 use Rattle.vote.proofs.Stepwise as voteSteps
 use Rattle.reserve.specs.Run as reserveRun
 use Rattle.reserve.specs.declared.Reserve.{Reserve as ReserveState}
@@ -46,10 +46,10 @@ confirm-tells n s x g e =
     (rw (confirmClauses.shown-stays s x) (below n _ (u .wide) (u .output-in)), omega (arith, confirmClauses.marks-few s x), omega (arith, u .small))
 
 pub tuple-tells :
-    (n : ℕ) (s : Tuple) (a b : ℕ) → tupleSteps.Sound n s
+    (n : ℕ) (s : Tuple) (a b : ℕ) → tupleSound.Sound n s
     → let t = tuple.clauses s a b in Tellable (tupleRun.shownWord t) (tupleRun.shownMark t) (tupleRun.shownMask t)
 tuple-tells n s a b g =
-    let u = tupleSteps.sound-next n s g a b .confirm-sound in
+    let u = tupleSound.sound-next n s g a b .confirm-sound in
     (rw (tupleClauses.shown-stays s a b) (below n _ (u .wide) (u .output-in)), tupleClauses.marks-few s a b, below (tuple.width s) _ (rw (g .confirm-sound .width) (u .wide)) (mask-inside s a b))
 
 pub reserve-tells :

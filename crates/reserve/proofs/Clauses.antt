@@ -4,7 +4,7 @@ use mathlib.Core.Bool.{Bool, true, false}
 use Prim.Native.Nat.{_≤_}
 use native.Mathlib.Omega.{arith}
 use Rattle.vote.specs.Vote.{clauses as clausesOf}
-use Rattle.vote.proofs.Clauses as vote
+use Rattle.vote.proofs.Clauses as voteClauses
 use Rattle.reserve.specs.declared.Phase.{Phase}
 use Rattle.reserve.specs.declared.Phase.the-variants.{Primary, TakingOver, Reserve as Reserved}
 use Rattle.reserve.specs.declared.Reserve.{Reserve}
@@ -29,10 +29,10 @@ module _ (s : Reserve) (x : Sample) where
   pub shown-stays : shownWord (stepped s x) ≡ stepped s x .state .vote .word
   shown-stays =
       either-pair (λ (t : ReserveStep). shownWord t ≡ t .state .vote .word)
-      (vote.shown-stays (s .vote) (x .0 .0) (x .0 .1) false) (vote.shown-stays (s .vote) (x .1 .0) (x .1 .1))
+      (voteClauses.shown-stays (s .vote) (x .0 .0) (x .0 .1) false) (voteClauses.shown-stays (s .vote) (x .1 .0) (x .1 .1))
 
   pub marks-few : shownMark (stepped s x) ≤ 2
-  marks-few = either-pair (λ (t : ReserveStep). shownMark t ≤ 2) (vote.marks-few (s .vote) (x .0 .0) (x .0 .1) false) (vote.marks-few (s .vote) (x .1 .0) (x .1 .1))
+  marks-few = either-pair (λ (t : ReserveStep). shownMark t ≤ 2) (voteClauses.marks-few (s .vote) (x .0 .0) (x .0 .1) false) (voteClauses.marks-few (s .vote) (x .1 .0) (x .1 .1))
 
   pub pairs-few : stepped s x .pair ≤ 2
   pairs-few = either-pair (λ (t : ReserveStep). t .pair ≤ 2) (omega arith) (λ reset. omega arith)

@@ -15,8 +15,8 @@ use Rattle.trace.specs.Trace.{trace, left}
 use Rattle.trace.proofs.Columns.{zip-length, zip-at, zip-drop}
 use Rattle.vote.specs.Answers.{wordOf, markOf}
 use Rattle.vote.specs.Parts.{takenBy, Taken}
-use Rattle.vote.specs.Run as vote
-use Rattle.vote.specs.Vote as voted
+use Rattle.vote.specs.Run as voteRun
+use Rattle.vote.specs.Vote as vote
 use Rattle.vote.specs.declared.Vote.{Vote}
 use Rattle.vote.specs.declared.VoteAnswer.{VoteAnswer}
 use Rattle.vote.specs.declared.VoteAnswer.the-variants.{Agreed, Held, Alarm, Refused}
@@ -46,14 +46,14 @@ module _ (g : VoteAnswer → ℕ) where
   abbrev ofReserve : ReserveStep → ℕ
   ofReserve t = g (t .answer)
 
-  in-reserve : (v : Vote) (us vs : List (ℕ × ℕ)) → length us ≡ length vs → map ofReserve (steps (state-in Reserved v) (zip us vs)) ≡ map ofVote (vote.steps v vs)
+  in-reserve : (v : Vote) (us vs : List (ℕ × ℕ)) → length us ≡ length vs → map ofReserve (steps (state-in Reserved v) (zip us vs)) ≡ map ofVote (voteRun.steps v vs)
   unfolding trace clauses zip zipWith
   in-reserve v [] [] e = refl
   in-reserve v [] (y ∷ vs) e = absurd (let z : 0 ≡ suc (length vs) = e in omega arith)
   in-reserve v (x ∷ us) [] e = absurd (let z : suc (length us) ≡ 0 = e in omega arith)
   in-reserve v (x ∷ us) (y ∷ vs) e =
-      ap (λ (l : List ℕ). g (vote.plain v y .answer) ∷ l)
-      (in-reserve (vote.plain v y .state) us vs (let z : suc (length us) ≡ suc (length vs) = e in omega arith))
+      ap (λ (l : List ℕ). g (voteRun.plain v y .answer) ∷ l)
+      (in-reserve (voteRun.plain v y .state) us vs (let z : suc (length us) ≡ suc (length vs) = e in omega arith))
 
   taking-over : (v : Vote) (us vs : List (ℕ × ℕ)) → length us ≡ length vs → map ofReserve (steps (state-in TakingOver v) (zip us vs)) ≡ map ofVote (tookOver v vs)
   unfolding trace clauses zip zipWith tookOver
@@ -61,23 +61,23 @@ module _ (g : VoteAnswer → ℕ) where
   taking-over v [] (y ∷ vs) e = absurd (let z : 0 ≡ suc (length vs) = e in omega arith)
   taking-over v (x ∷ us) [] e = absurd (let z : suc (length us) ≡ 0 = e in omega arith)
   taking-over v (x ∷ us) (y ∷ vs) e =
-      let t = voted.clauses v (y .0) (y .1) true in
+      let t = vote.clauses v (y .0) (y .1) true in
       ap (λ (l : List ℕ). g (t .answer) ∷ l) (in-reserve (t .state) us vs (let z : suc (length us) ≡ suc (length vs) = e in omega arith))
 
   pub in-parts :
       (v : Vote) (us vs : List (ℕ × ℕ)) → length us ≡ length vs → let end = takenBy true v us in
       map ofReserve (steps (state-in Primary v) (zip us vs))
-      ≡ map ofVote (vote.steps v (take end us)) ++ map ofVote (tookOver (left vote.plain vote.leaves v (take end us)) (drop end vs))
+      ≡ map ofVote (voteRun.steps v (take end us)) ++ map ofVote (tookOver (left voteRun.plain voteRun.leaves v (take end us)) (drop end vs))
   unfolding trace left clauses zip zipWith takenBy tookOver
   in-parts v [] [] e = refl
   in-parts v [] (y ∷ vs) e = absurd (let z : 0 ≡ suc (length vs) = e in omega arith)
   in-parts v (x ∷ us) [] e = absurd (let z : suc (length us) ≡ 0 = e in omega arith)
   in-parts v (x ∷ us) (y ∷ vs) e =
-      let t = vote.plain v x in
+      let t = voteRun.plain v x in
       let rest : length us ≡ length vs = (let z : suc (length us) ≡ suc (length vs) = e in omega arith) in
       rw (phase-is (t .answer)) (go (eqb (markOf (t .answer)) 2) (taking-over (t .state) us vs rest) (in-parts (t .state) us vs rest)) where
         first : VoteStep
-        first = vote.plain v x
+        first = voteRun.plain v x
 
         later : ℕ
         later = takenBy true (first .state) us
@@ -86,10 +86,10 @@ module _ (g : VoteAnswer → ℕ) where
             (alarm : Bool)
             → map ofReserve (steps (state-in TakingOver (first .state)) (zip us vs)) ≡ map ofVote (tookOver (first .state) vs)
             → map ofReserve (steps (state-in Primary (first .state)) (zip us vs))
-            ≡ map ofVote (vote.steps (first .state) (take later us)) ++ map ofVote (tookOver (left vote.plain vote.leaves (first .state) (take later us)) (drop later vs))
+            ≡ map ofVote (voteRun.steps (first .state) (take later us)) ++ map ofVote (tookOver (left voteRun.plain voteRun.leaves (first .state) (take later us)) (drop later vs))
             → let end = suc (if alarm then 0 else later) in
             g (first .answer) ∷ map ofReserve (steps (state-in (if alarm then TakingOver else Primary) (first .state)) (zip us vs))
-            ≡ map ofVote (vote.steps v (take end (x ∷ us))) ++ map ofVote (tookOver (left vote.plain vote.leaves v (take end (x ∷ us))) (drop end (y ∷ vs)))
+            ≡ map ofVote (voteRun.steps v (take end (x ∷ us))) ++ map ofVote (tookOver (left voteRun.plain voteRun.leaves v (take end (x ∷ us))) (drop end (y ∷ vs)))
         go true over on = ap (λ (l : List ℕ). g (first .answer) ∷ l) over
         go false over on = ap (λ (l : List ℕ). g (first .answer) ∷ l) on
 
@@ -97,7 +97,7 @@ module _ (g : VoteAnswer → ℕ) where
 module _
     (s : Reserve) (primary : s .phase ≡ Primary) (a b c d : List ℕ) (ab : length a ≡ length b) (ac : length a ≡ length c) (ad : length a ≡ length d)
     (words₀ marks₀ : List ℕ) (end : ℕ) (v : Vote) (words marks : List ℕ) (p : Taken true (s .vote) (zip a b) words₀ marks₀ end v true words marks) where
-  shown : (g : VoteAnswer → ℕ) → map (ofVote g) (vote.steps (s .vote) (take end (zip a b))) ++ map (ofVote g) (tookOver v (drop end (zip c d))) ≡ map (ofReserve g) (steps s (samplesOf a b c d))
+  shown : (g : VoteAnswer → ℕ) → map (ofVote g) (voteRun.steps (s .vote) (take end (zip a b))) ++ map (ofVote g) (tookOver v (drop end (zip c d))) ≡ map (ofReserve g) (steps s (samplesOf a b c d))
   shown g =
       let cd : length c ≡ length d = omega arith in
       let alike : length (zip a b) ≡ length (zip c d) = omega (arith, zip-length a b ab, zip-length c d cd) in
@@ -105,10 +105,10 @@ module _
       let start : state-in Primary (s .vote) ≡ s = ap (λ (q : Phase). state-in q (s .vote)) (sym primary) in
       sym (rw (start, here, p .leaving) at (in-parts g (s .vote) (zip a b) (zip c d) alike))
 
-  pub words-in-parts : take end words ++ map vote.shownWord (tookOver v (drop end (zip c d))) ≡ map shownWord (steps s (samplesOf a b c d))
+  pub words-in-parts : take end words ++ map voteRun.shownWord (tookOver v (drop end (zip c d))) ≡ map shownWord (steps s (samplesOf a b c d))
   words-in-parts = rw (p .words-shown) (shown wordOf)
 
-  pub marks-in-parts : take end marks ++ map vote.shownMark (tookOver v (drop end (zip c d))) ≡ map shownMark (steps s (samplesOf a b c d))
+  pub marks-in-parts : take end marks ++ map voteRun.shownMark (tookOver v (drop end (zip c d))) ≡ map shownMark (steps s (samplesOf a b c d))
   marks-in-parts = rw (p .marks-shown) (shown markOf)
 
   -- without a hand-over before the end, units 1 and 2 are all
@@ -131,8 +131,8 @@ put-rest k l m h = rw (post-is k (length l) l h, drop-length, append-nil)
 -- the step t on sample `over` is stored, and the steps from there on fill the rest of the slice
 module _ (f : VoteStep → ℕ) (s : Vote) (over : ℕ) (c d l : List ℕ) (h : over < length c) (cd : length c ≡ length d) (cl : length c ≡ length l) where
   pub handed-over :
-      (t : VoteStep) (v : ℕ) (m : List ℕ) → t ≡ voted.clauses s (getD c over 0) (getD d over 0) true → v ≡ f t
-      → m ≡ map f (vote.steps (t .state) (zip (take (length c - (over + 1)) (drop (over + 1) c)) (take (length d - (over + 1)) (drop (over + 1) d))))
+      (t : VoteStep) (v : ℕ) (m : List ℕ) → t ≡ vote.clauses s (getD c over 0) (getD d over 0) true → v ≡ f t
+      → m ≡ map f (voteRun.steps (t .state) (zip (take (length c - (over + 1)) (drop (over + 1) c)) (take (length d - (over + 1)) (drop (over + 1) d))))
       → putMid (over + 1) (length (set l over v) - (over + 1)) (set l over v) m ≡ take over l ++ map f (tookOver s (drop over (zip c d)))
   unfolding tookOver
   handed-over t v m q w e =

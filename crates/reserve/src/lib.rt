@@ -8,7 +8,7 @@ ghost use mathlib.Core.List.{_++_, map, zip};
 ghost use Prim.Native.Nat.{_<_};
 ghost use lib.ListN.{length, take, drop};
 ghost use Rattle.rules.specs.Limits.{defaultWord};
-ghost use Rattle.vote.specs.Run as voted;
+ghost use Rattle.vote.specs.Run as voteRun;
 ghost use Rattle.reserve.specs.Parts.{tookOver};
 ghost use Rattle.reserve.specs.Reserve.{phaseAfter, firstPair, secondPair, clauses, madeOf, stepOf};
 ghost use Rattle.reserve.specs.Run.{steps, shownWord, shownMark, samplesOf, Ran};
@@ -142,9 +142,9 @@ fn take_over(alarmed: Vote, over: usize, c: &[u32], d: &[u32], words: &mut [u32]
     requires { ⌜ length (now c) ≡ length (now words) ⌝ }
     requires { ⌜ length (now c) ≡ length (now marks) ⌝ }
     ensures { λ _. ⌜ now (words .exit) ≡
-        take over (now (words .entry)) ++ map voted.shownWord (tookOver alarmed (drop over (zip (now (c .entry)) (now (d .entry))))) ⌝ }
+        take over (now (words .entry)) ++ map voteRun.shownWord (tookOver alarmed (drop over (zip (now (c .entry)) (now (d .entry))))) ⌝ }
     ensures { λ _. ⌜ now (marks .exit) ≡
-        take over (now (marks .entry)) ++ map voted.shownMark (tookOver alarmed (drop over (zip (now (c .entry)) (now (d .entry))))) ⌝ }
+        take over (now (marks .entry)) ++ map voteRun.shownMark (tookOver alarmed (drop over (zip (now (c .entry)) (now (d .entry))))) ⌝ }
 {
     let taken = alarmed.clauses(c[over], d[over], true);
     let answer = taken.answer;

@@ -2,13 +2,13 @@
 use Prim.Native.Nat.{ℕ}
 use mathlib.Core.List.{List, [], _∷_}
 use Rattle.rules.specs.Table.{orElse}
-use Rattle.confirm.specs.Answers as confirm
+use Rattle.confirm.specs.Answers as confirmAnswers
 use Rattle.confirm.specs.declared.ConfirmMade.{ConfirmMade}
 use Rattle.confirm.specs.declared.ConfirmStep.{ConfirmStep}
-use Rattle.vote.specs.Answers as vote
+use Rattle.vote.specs.Answers as voteAnswers
 use Rattle.vote.specs.declared.VoteMade.{VoteMade}
 use Rattle.vote.specs.declared.VoteStep.{VoteStep}
-use Rattle.tuple.specs.Answers as tuple
+use Rattle.tuple.specs.Answers as tupleAnswers
 use Rattle.tuple.specs.declared.TupleMade.{TupleMade}
 use Rattle.tuple.specs.declared.TupleStep.{TupleStep}
 use Rattle.reserve.specs.declared.ReserveMade.{ReserveMade}
@@ -31,25 +31,25 @@ MakesReserve m = Makes (m .refusal) (reserveNumbers (m .state))
 
 -- a step writes the state that it leaves, and what it shows: the word, the mark, and the tuple vote's mask or the pair voted on
 abbrev pub StepsConfirm : ConfirmStep → List ℕ → List ℕ → ℕ → List ℕ → List ℕ → Type 0
-StepsConfirm t = Steps (confirm.numberOf (t .answer)) (confirmNumbers (t .state)) (confirm.wordOf (t .answer) ∷ confirm.markOf (t .answer) ∷ [])
+StepsConfirm t = Steps (confirmAnswers.numberOf (t .answer)) (confirmNumbers (t .state)) (confirmAnswers.wordOf (t .answer) ∷ confirmAnswers.markOf (t .answer) ∷ [])
 
 abbrev pub StepsVote : VoteStep → List ℕ → List ℕ → ℕ → List ℕ → List ℕ → Type 0
-StepsVote t = Steps (vote.numberOf (t .answer)) (voteNumbers (t .state)) (vote.wordOf (t .answer) ∷ vote.markOf (t .answer) ∷ [])
+StepsVote t = Steps (voteAnswers.numberOf (t .answer)) (voteNumbers (t .state)) (voteAnswers.wordOf (t .answer) ∷ voteAnswers.markOf (t .answer) ∷ [])
 
 abbrev pub StepsTuple : TupleStep → List ℕ → List ℕ → ℕ → List ℕ → List ℕ → Type 0
 StepsTuple t =
-    Steps (tuple.numberOf (t .answer)) (tupleNumbers (t .state)) (tuple.wordOf (t .answer) ∷ tuple.markOf (t .answer) ∷ tuple.maskOf (t .answer) ∷ [])
+    Steps (tupleAnswers.numberOf (t .answer)) (tupleNumbers (t .state)) (tupleAnswers.wordOf (t .answer) ∷ tupleAnswers.markOf (t .answer) ∷ tupleAnswers.maskOf (t .answer) ∷ [])
 
 -- the step's own number, and 7 too where the state's phase is no phase
 abbrev pub reserveNumber : List ℕ → ReserveStep → ℕ
-reserveNumber state t = orElse (vote.numberOf (t .answer)) 7 (noPhase state)
+reserveNumber state t = orElse (voteAnswers.numberOf (t .answer)) 7 (noPhase state)
 
 abbrev pub shownNumbers : ReserveStep → List ℕ
-shownNumbers t = vote.wordOf (t .answer) ∷ vote.markOf (t .answer) ∷ t .pair ∷ []
+shownNumbers t = voteAnswers.wordOf (t .answer) ∷ voteAnswers.markOf (t .answer) ∷ t .pair ∷ []
 
 -- the same, its word taken from the state that the step leaves
 abbrev pub keptNumbers : ReserveStep → List ℕ
-keptNumbers t = t .state .vote .word ∷ vote.markOf (t .answer) ∷ t .pair ∷ []
+keptNumbers t = t .state .vote .word ∷ voteAnswers.markOf (t .answer) ∷ t .pair ∷ []
 
 abbrev pub StepsReserve : ReserveStep → List ℕ → List ℕ → ℕ → List ℕ → List ℕ → Type 0
 StepsReserve t state = Steps (reserveNumber state t) (reserveNumbers (t .state)) (shownNumbers t) state

@@ -8,9 +8,9 @@ use Rattle.trace.specs.declared.RunAnswer.the-variants.{Done}
 use Rattle.sizing.specs.Sizing.{sizingOf, notSized}
 use Rattle.threshold.specs.Threshold.{thresholdOf}
 use Rattle.vote.specs.Vote as vote
-use Rattle.vote.specs.Run as votes
+use Rattle.vote.specs.Run as voteRun
 use Rattle.reserve.specs.Reserve as reserve
-use Rattle.reserve.specs.Run as reserves
+use Rattle.reserve.specs.Run as reserveRun
 use Rattle.text.specs.Text.{bytes}
 use Rattle.listing.specs.Listing.{textOf}
 use Rattle.threshold.specs.declared.Threshold.the-variants.{Agreed, Alarm}
@@ -53,7 +53,7 @@ pub data Row : Type 0 where
   sizing-n_Tm_TM_D_refused_ : ℕ → ℕ → ℕ → ℕ → ℕ → Row
   recording_lists_ : List ℕ → List String → Row
   vote-n_N_from_lists_ : ℕ → ℕ → ℕ → List (VoteLine (ℕ × ℕ)) → Row
-  reserve-n_N_from_lists_ : ℕ → ℕ → ℕ → List (VoteLine reserves.Sample) → Row
+  reserve-n_N_from_lists_ : ℕ → ℕ → ℕ → List (VoteLine reserveRun.Sample) → Row
   readings_and_and_tolerance_agreed_ : Float → Float → Float → Float → Float → Row
   readings_and_and_tolerance_alarm : Float → Float → Float → Float → Row
 
@@ -64,13 +64,13 @@ Holds (count-n n Tm tm TM tM D d is need) = sizingOf n tm tM d .count ≡ need
 Holds (sizing-n n Tm tm TM tM D d refused number) = sizingOf n tm tM d ≡ notSized number
 Holds (recording s lists lines) = textOf s ≡ asText lines
 Holds (vote-n n N need from word lists lines) =
-    (votes.answerOf n need word (column (λ x. x .0) lines) (column (λ x. x .1) lines) (map wordIn lines) (map markIn lines) ≡ Done)
-    × (map votes.shownWord (votes.steps (vote.fresh n need word) (map seenIn lines)) ≡ map wordIn lines)
-    × (map votes.shownMark (votes.steps (vote.fresh n need word) (map seenIn lines)) ≡ map markIn lines)
+    (voteRun.answerOf n need word (column (λ x. x .0) lines) (column (λ x. x .1) lines) (map wordIn lines) (map markIn lines) ≡ Done)
+    × (map voteRun.shownWord (voteRun.steps (vote.fresh n need word) (map seenIn lines)) ≡ map wordIn lines)
+    × (map voteRun.shownMark (voteRun.steps (vote.fresh n need word) (map seenIn lines)) ≡ map markIn lines)
 Holds (reserve-n n N need from word lists lines) =
-    (reserves.answerOf n need word (column (λ x. x .0 .0) lines) (column (λ x. x .0 .1) lines) (column (λ x. x .1 .0) lines) (column (λ x. x .1 .1) lines) (map wordIn lines) (map markIn lines) ≡ Done)
-    × (map reserves.shownWord (reserves.steps (reserve.fresh n need word) (map seenIn lines)) ≡ map wordIn lines)
-    × (map reserves.shownMark (reserves.steps (reserve.fresh n need word) (map seenIn lines)) ≡ map markIn lines)
+    (reserveRun.answerOf n need word (column (λ x. x .0 .0) lines) (column (λ x. x .0 .1) lines) (column (λ x. x .1 .0) lines) (column (λ x. x .1 .1) lines) (map wordIn lines) (map markIn lines) ≡ Done)
+    × (map reserveRun.shownWord (reserveRun.steps (reserve.fresh n need word) (map seenIn lines)) ≡ map wordIn lines)
+    × (map reserveRun.shownMark (reserveRun.steps (reserve.fresh n need word) (map seenIn lines)) ≡ map markIn lines)
 Holds (readings x1 and x2 and x3 tolerance t agreed m) = thresholdOf (record { x1 = x1; x2 = x2; x3 = x3; tolerance = t }) ≡ Agreed m
 Holds (readings x1 and x2 and x3 tolerance t alarm) = thresholdOf (record { x1 = x1; x2 = x2; x3 = x3; tolerance = t }) ≡ Alarm
 
