@@ -44,10 +44,10 @@ pub step-unique : Fixes (step.Learnt tt) (λ z e. z) (λ a. stepOf (a .0) (a .1 
 step-unique = fixes (λ a z e p. p)
 
 -- a run: its answer, and the words, marks and counts as it leaves them
-abbrev Seen : Type 0
+abbrev pub Seen : Type 0
 Seen = RunAnswer × List ℕ × List ℕ × List ℕ
 
-abbrev ran : ℕ → ℕ → ℕ → List ℕ → List ℕ → List ℕ → List ℕ → Seen
+abbrev pub ran : ℕ → ℕ → ℕ → List ℕ → List ℕ → List ℕ → List ℕ → Seen
 ran n need w samples words marks counts =
     let r = answerOf n need w samples words marks counts in
     let taken = steps (fresh n need w) samples in

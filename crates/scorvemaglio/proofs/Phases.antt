@@ -19,7 +19,7 @@ use Rattle.reserve.proofs.Clauses.{shown-stays}
 use Rattle.reserve.proofs.Exactly.{step-number}
 use Rattle.reserve.proofs.OneTest.{union, union-outside, admitted, one-test, ways}
 use Rattle.scorvemaglio.specs.States.{reserveOf, noPhase}
-use Rattle.scorvemaglio.specs.Voters.{reserveNumber, shownNumbers, keptNumbers}
+use Rattle.scorvemaglio.specs.Voters.{reserveNumber, reserveShown, reserveKept}
 
 -- refused is what has no phase or is not admitted
 either : (p q : Bool) → not (p || not q) ≡ q && not p
@@ -67,5 +67,5 @@ module _ (state : List ℕ) (a b c d : ℕ) where
   taken-as e = (number ∙ eqb-true _ _ (rw (← tested, e)), ways s a b c d .0 (not-false _ (or-neither (noPhase state) (not (admitted s a b c d)) e .1)))
 
   -- what the clauses show is the word that they leave in the state
-  pub kept-as-shown : keptNumbers (clauses s a b c d) ≡ shownNumbers (clauses s a b c d)
+  pub kept-as-shown : reserveKept (clauses s a b c d) ≡ reserveShown (clauses s a b c d)
   kept-as-shown = ap (λ (w : ℕ). w ∷ markOf (clauses s a b c d .answer) ∷ clauses s a b c d .pair ∷ []) (sym (shown-stays s ((a, b), (c, d))))

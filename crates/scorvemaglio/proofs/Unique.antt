@@ -2,7 +2,7 @@
 -- returned and every place that is lent to be written. A place that is lent as `&` cannot change: its type says so.
 use Prim.Native.Nat.{ℕ}
 use mathlib.Core.Path.{_≡_}
-use mathlib.Core.List.{List, [], _∷_, map, zip}
+use mathlib.Core.List.{List}
 use mathlib.Core.Bool.{not}
 use denote.Ref.{now}
 use contract.Lifetimes.{Lfts}
@@ -10,21 +10,22 @@ use lib.Dec.{eqb}
 use Rattle.rules.specs.Limits.{defaultWord}
 use Rattle.rules.specs.Promise.{Fixes}
 use Rattle.rules.proofs.Promise.{fixes}
-use Rattle.trace.specs.Answers.{runNumber, runSample, after}
+use Rattle.trace.specs.Answers.{runNumber, runSample}
+use Rattle.trace.specs.declared.RunAnswer.{RunAnswer}
 use Rattle.confirm.specs.Confirm as confirm
-use Rattle.confirm.specs.Run as confirmRun
+use Rattle.confirm.proofs.Unique.{ran as confirm-ran}
 use Rattle.vote.specs.Vote as vote
-use Rattle.vote.specs.Run as voteRun
+use Rattle.vote.proofs.Unique.{ran as vote-ran}
 use Rattle.tuple.specs.Tuple as tuple
-use Rattle.tuple.specs.Run as tupleRun
+use Rattle.tuple.proofs.Unique.{ran as tuple-ran}
 use Rattle.reserve.specs.Reserve as reserve
-use Rattle.reserve.specs.Run as reserveRun
+use Rattle.reserve.proofs.Unique.{ran as reserve-ran}
 use Rattle.confirm.specs.Answers as confirmAnswers
 use Rattle.vote.specs.Answers as voteAnswers
 use Rattle.tuple.specs.Answers as tupleAnswers
 use Rattle.scorvemaglio.specs.Lent.{Makes, Steps, unlessRefused}
 use Rattle.scorvemaglio.specs.States.{confirmOf, confirmNumbers, voteOf, voteNumbers, tupleOf, tupleNumbers, reserveOf, reserveNumbers}
-use Rattle.scorvemaglio.specs.Voters.{reserveNumber}
+use Rattle.scorvemaglio.specs.Voters.{confirmShown, voteShown, tupleShown, reserveShown, reserveNumber}
 use Rattle.scorvemaglio.proofs.confirms.scorve_confirm_from_word.Reads as confirm-from-word
 use Rattle.scorvemaglio.proofs.confirms.scorve_confirm_new.Reads as confirm-new
 use Rattle.scorvemaglio.proofs.confirms.scorve_confirm_step.Reads as confirm-step
@@ -64,6 +65,13 @@ steps-says :
     → (r, state′, answer′) ≡ stepped number next shown state answer
 steps-says p = cc
 
+-- a run: what the room's own determines, its answer as two numbers beside two slices, or three
+abbrev told-two : RunAnswer × List ℕ × List ℕ → ℕ × ℕ × List ℕ × List ℕ
+told-two (r, one, two) = (runNumber r, runSample r, one, two)
+
+abbrev told-three : RunAnswer × List ℕ × List ℕ × List ℕ → ℕ × ℕ × List ℕ × List ℕ × List ℕ
+told-three (r, one, two, three) = (runNumber r, runSample r, one, two, three)
+
 pub confirm-from-word-unique :
     (κs : Lfts 1)
     → Fixes {O = Made} (confirm-from-word.Learnt κs) (λ z e. (z, now (e .0)))
@@ -81,14 +89,8 @@ pub confirm-step-unique :
     → Fixes {O = Stepped} (confirm-step.Learnt κs) (λ z e. (z, now (e .0), now (e .1 .1 .0)))
     (λ a.
     let t = confirm.stepOf (confirmOf (now (a .0))) (a .1 .0) in
-    stepped (confirmAnswers.numberOf (t .answer)) (confirmNumbers (t .state)) (confirmAnswers.wordOf (t .answer) ∷ confirmAnswers.markOf (t .answer) ∷ []) (now (a .0)) (now (a .1 .1 .0)))
+    stepped (confirmAnswers.numberOf (t .answer)) (confirmNumbers (t .state)) (confirmShown t) (now (a .0)) (now (a .1 .1 .0)))
 confirm-step-unique κs = fixes (λ a z e p. steps-says p)
-
-abbrev confirm-ran : ℕ → ℕ → ℕ → List ℕ → List ℕ → List ℕ → List ℕ → ℕ × ℕ × List ℕ × List ℕ × List ℕ
-confirm-ran n need word samples words marks counts =
-    let r = confirmRun.answerOf n need word samples words marks counts in
-    let taken = confirmRun.steps (confirm.fresh n need word) samples in
-    (runNumber r, runSample r, after r words (map confirmRun.shownWord taken), after r marks (map confirmRun.shownMark taken), after r counts (map confirmRun.shownCount taken))
 
 pub confirm-run-unique :
     (κs : Lfts 5)
@@ -96,7 +98,7 @@ pub confirm-run-unique :
     (λ z e. let lent = e .1 .1 .1 .1 in (z, now (lent .1 .1 .1 .0), now (lent .0), now (lent .1 .0), now (lent .1 .1 .0)))
     (λ a.
     let lent = a .1 .1 .1 in
-    confirm-ran (a .0) (a .1 .0) (a .1 .1 .0) (now (lent .0)) (now (lent .1 .0)) (now (lent .1 .1 .0)) (now (lent .1 .1 .1 .0)))
+    told-three (confirm-ran (a .0) (a .1 .0) (a .1 .1 .0) (now (lent .0)) (now (lent .1 .0)) (now (lent .1 .1 .0)) (now (lent .1 .1 .1 .0))))
 confirm-run-unique κs = fixes (λ a z e p. let r = p .ran in let q = p .told in cc)
 
 pub vote-from-word-unique :
@@ -116,14 +118,8 @@ pub vote-step-unique :
     → Fixes {O = Stepped} (vote-step.Learnt κs) (λ z e. (z, now (e .0), now (e .1 .1 .1 .1 .0)))
     (λ a.
     let t = vote.stepOf (voteOf (now (a .0))) (a .1 .0) (a .1 .1 .0) (not (eqb (a .1 .1 .1 .0) 0)) in
-    stepped (voteAnswers.numberOf (t .answer)) (voteNumbers (t .state)) (voteAnswers.wordOf (t .answer) ∷ voteAnswers.markOf (t .answer) ∷ []) (now (a .0)) (now (a .1 .1 .1 .1 .0)))
+    stepped (voteAnswers.numberOf (t .answer)) (voteNumbers (t .state)) (voteShown t) (now (a .0)) (now (a .1 .1 .1 .1 .0)))
 vote-step-unique κs = fixes (λ a z e p. steps-says p)
-
-abbrev vote-ran : ℕ → ℕ → ℕ → List ℕ → List ℕ → List ℕ → List ℕ → ℕ × ℕ × List ℕ × List ℕ
-vote-ran n need word a b words marks =
-    let r = voteRun.answerOf n need word a b words marks in
-    let taken = voteRun.steps (vote.fresh n need word) (zip a b) in
-    (runNumber r, runSample r, after r words (map voteRun.shownWord taken), after r marks (map voteRun.shownMark taken))
 
 pub vote-run-unique :
     (κs : Lfts 5)
@@ -131,7 +127,7 @@ pub vote-run-unique :
     (λ z e. let lent = e .1 .1 .1 .1 .1 in (z, now (lent .1 .1 .0), now (lent .0), now (lent .1 .0)))
     (λ a.
     let lent = a .1 .1 .1 in
-    vote-ran (a .0) (a .1 .0) (a .1 .1 .0) (now (lent .0)) (now (lent .1 .0)) (now (lent .1 .1 .0)) (now (lent .1 .1 .1 .0)))
+    told-two (vote-ran (a .0) (a .1 .0) (a .1 .1 .0) (now (lent .0)) (now (lent .1 .0)) (now (lent .1 .1 .0)) (now (lent .1 .1 .1 .0))))
 vote-run-unique κs = fixes (λ a z e p. let r = p .ran in let q = p .told in cc)
 
 pub tuple-from-word-unique :
@@ -151,14 +147,8 @@ pub tuple-step-unique :
     → Fixes {O = Stepped} (tuple-step.Learnt κs) (λ z e. (z, now (e .0), now (e .1 .1 .1 .0)))
     (λ a.
     let t = tuple.stepOf (tupleOf (now (a .0))) (a .1 .0) (a .1 .1 .0) in
-    stepped (tupleAnswers.numberOf (t .answer)) (tupleNumbers (t .state)) (tupleAnswers.wordOf (t .answer) ∷ tupleAnswers.markOf (t .answer) ∷ tupleAnswers.maskOf (t .answer) ∷ []) (now (a .0)) (now (a .1 .1 .1 .0)))
+    stepped (tupleAnswers.numberOf (t .answer)) (tupleNumbers (t .state)) (tupleShown t) (now (a .0)) (now (a .1 .1 .1 .0)))
 tuple-step-unique κs = fixes (λ a z e p. steps-says p)
-
-abbrev tuple-ran : ℕ → ℕ → ℕ → List ℕ → List ℕ → List ℕ → List ℕ → List ℕ → ℕ × ℕ × List ℕ × List ℕ × List ℕ
-tuple-ran n need word a b words masks marks =
-    let r = tupleRun.answerOf n need word a b words masks marks in
-    let taken = tupleRun.steps (tuple.fresh n need word) (zip a b) in
-    (runNumber r, runSample r, after r words (map tupleRun.shownWord taken), after r masks (map tupleRun.shownMask taken), after r marks (map tupleRun.shownMark taken))
 
 pub tuple-run-unique :
     (κs : Lfts 6)
@@ -166,7 +156,7 @@ pub tuple-run-unique :
     (λ z e. let lent = e .1 .1 .1 .1 .1 in (z, now (lent .1 .1 .1 .0), now (lent .0), now (lent .1 .0), now (lent .1 .1 .0)))
     (λ a.
     let lent = a .1 .1 .1 in
-    tuple-ran (a .0) (a .1 .0) (a .1 .1 .0) (now (lent .0)) (now (lent .1 .0)) (now (lent .1 .1 .0)) (now (lent .1 .1 .1 .0)) (now (lent .1 .1 .1 .1 .0)))
+    told-three (tuple-ran (a .0) (a .1 .0) (a .1 .1 .0) (now (lent .0)) (now (lent .1 .0)) (now (lent .1 .1 .0)) (now (lent .1 .1 .1 .0)) (now (lent .1 .1 .1 .1 .0))))
 tuple-run-unique κs = fixes (λ a z e p. let r = p .ran in let q = p .told in cc)
 
 pub reserve-from-word-unique :
@@ -186,14 +176,8 @@ pub reserve-step-unique :
     → Fixes {O = Stepped} (reserve-step.Learnt κs) (λ z e. (z, now (e .0), now (e .1 .1 .1 .1 .1 .0)))
     (λ a.
     let t = reserve.stepOf (reserveOf (now (a .0))) (a .1 .0) (a .1 .1 .0) (a .1 .1 .1 .0) (a .1 .1 .1 .1 .0) in
-    stepped (reserveNumber (now (a .0)) t) (reserveNumbers (t .state)) (voteAnswers.wordOf (t .answer) ∷ voteAnswers.markOf (t .answer) ∷ t .pair ∷ []) (now (a .0)) (now (a .1 .1 .1 .1 .1 .0)))
+    stepped (reserveNumber (now (a .0)) t) (reserveNumbers (t .state)) (reserveShown t) (now (a .0)) (now (a .1 .1 .1 .1 .1 .0)))
 reserve-step-unique κs = fixes (λ a z e p. steps-says p)
-
-abbrev reserve-ran : ℕ → ℕ → ℕ → List ℕ → List ℕ → List ℕ → List ℕ → List ℕ → List ℕ → ℕ × ℕ × List ℕ × List ℕ
-reserve-ran n need word a b c d words marks =
-    let r = reserveRun.answerOf n need word a b c d words marks in
-    let taken = reserveRun.steps (reserve.fresh n need word) (reserveRun.samplesOf a b c d) in
-    (runNumber r, runSample r, after r words (map reserveRun.shownWord taken), after r marks (map reserveRun.shownMark taken))
 
 pub reserve-run-unique :
     (κs : Lfts 7)
@@ -201,5 +185,5 @@ pub reserve-run-unique :
     (λ z e. let lent = e .1 .1 .1 .1 .1 .1 .1 in (z, now (lent .1 .1 .0), now (lent .0), now (lent .1 .0)))
     (λ a.
     let lent = a .1 .1 .1 in
-    reserve-ran (a .0) (a .1 .0) (a .1 .1 .0) (now (lent .0)) (now (lent .1 .0)) (now (lent .1 .1 .0)) (now (lent .1 .1 .1 .0)) (now (lent .1 .1 .1 .1 .0)) (now (lent .1 .1 .1 .1 .1 .0)))
+    told-two (reserve-ran (a .0) (a .1 .0) (a .1 .1 .0) (now (lent .0)) (now (lent .1 .0)) (now (lent .1 .1 .0)) (now (lent .1 .1 .1 .0)) (now (lent .1 .1 .1 .1 .0)) (now (lent .1 .1 .1 .1 .1 .0))))
 reserve-run-unique κs = fixes (λ a z e p. let r = p .ran in let q = p .told in cc)

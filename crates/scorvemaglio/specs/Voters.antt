@@ -29,27 +29,36 @@ MakesTuple m = Makes (m .refusal) (tupleNumbers (m .state))
 abbrev pub MakesReserve : ReserveMade → List ℕ → ℕ → List ℕ → Type 0
 MakesReserve m = Makes (m .refusal) (reserveNumbers (m .state))
 
--- a step writes the state that it leaves, and what it shows: the word, the mark, and the tuple vote's mask or the pair voted on
-abbrev pub StepsConfirm : ConfirmStep → List ℕ → List ℕ → ℕ → List ℕ → List ℕ → Type 0
-StepsConfirm t = Steps (confirmAnswers.numberOf (t .answer)) (confirmNumbers (t .state)) (confirmAnswers.wordOf (t .answer) ∷ confirmAnswers.markOf (t .answer) ∷ [])
+-- what a step shows: the word, the mark, and the tuple vote's mask or the pair voted on
+abbrev pub confirmShown : ConfirmStep → List ℕ
+confirmShown t = confirmAnswers.wordOf (t .answer) ∷ confirmAnswers.markOf (t .answer) ∷ []
 
-abbrev pub StepsVote : VoteStep → List ℕ → List ℕ → ℕ → List ℕ → List ℕ → Type 0
-StepsVote t = Steps (voteAnswers.numberOf (t .answer)) (voteNumbers (t .state)) (voteAnswers.wordOf (t .answer) ∷ voteAnswers.markOf (t .answer) ∷ [])
+abbrev pub voteShown : VoteStep → List ℕ
+voteShown t = voteAnswers.wordOf (t .answer) ∷ voteAnswers.markOf (t .answer) ∷ []
 
-abbrev pub StepsTuple : TupleStep → List ℕ → List ℕ → ℕ → List ℕ → List ℕ → Type 0
-StepsTuple t =
-    Steps (tupleAnswers.numberOf (t .answer)) (tupleNumbers (t .state)) (tupleAnswers.wordOf (t .answer) ∷ tupleAnswers.markOf (t .answer) ∷ tupleAnswers.maskOf (t .answer) ∷ [])
+abbrev pub tupleShown : TupleStep → List ℕ
+tupleShown t = tupleAnswers.wordOf (t .answer) ∷ tupleAnswers.markOf (t .answer) ∷ tupleAnswers.maskOf (t .answer) ∷ []
+
+abbrev pub reserveShown : ReserveStep → List ℕ
+reserveShown t = voteAnswers.wordOf (t .answer) ∷ voteAnswers.markOf (t .answer) ∷ t .pair ∷ []
+
+-- the same, its word taken from the state that the step leaves
+abbrev pub reserveKept : ReserveStep → List ℕ
+reserveKept t = t .state .vote .word ∷ voteAnswers.markOf (t .answer) ∷ t .pair ∷ []
 
 -- the step's own number, and 7 too where the state's phase is no phase
 abbrev pub reserveNumber : List ℕ → ReserveStep → ℕ
 reserveNumber state t = orElse (voteAnswers.numberOf (t .answer)) 7 (noPhase state)
 
-abbrev pub shownNumbers : ReserveStep → List ℕ
-shownNumbers t = voteAnswers.wordOf (t .answer) ∷ voteAnswers.markOf (t .answer) ∷ t .pair ∷ []
+-- a step writes the state that it leaves, and what it shows
+abbrev pub StepsConfirm : ConfirmStep → List ℕ → List ℕ → ℕ → List ℕ → List ℕ → Type 0
+StepsConfirm t = Steps (confirmAnswers.numberOf (t .answer)) (confirmNumbers (t .state)) (confirmShown t)
 
--- the same, its word taken from the state that the step leaves
-abbrev pub keptNumbers : ReserveStep → List ℕ
-keptNumbers t = t .state .vote .word ∷ voteAnswers.markOf (t .answer) ∷ t .pair ∷ []
+abbrev pub StepsVote : VoteStep → List ℕ → List ℕ → ℕ → List ℕ → List ℕ → Type 0
+StepsVote t = Steps (voteAnswers.numberOf (t .answer)) (voteNumbers (t .state)) (voteShown t)
+
+abbrev pub StepsTuple : TupleStep → List ℕ → List ℕ → ℕ → List ℕ → List ℕ → Type 0
+StepsTuple t = Steps (tupleAnswers.numberOf (t .answer)) (tupleNumbers (t .state)) (tupleShown t)
 
 abbrev pub StepsReserve : ReserveStep → List ℕ → List ℕ → ℕ → List ℕ → List ℕ → Type 0
-StepsReserve t state = Steps (reserveNumber state t) (reserveNumbers (t .state)) (shownNumbers t) state
+StepsReserve t state = Steps (reserveNumber state t) (reserveNumbers (t .state)) (reserveShown t) state

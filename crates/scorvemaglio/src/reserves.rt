@@ -9,7 +9,7 @@ ghost use Rattle.rules.specs.Limits.{defaultWord};
 ghost use Rattle.reserve.specs.Reserve.{madeOf, stepOf};
 ghost use Rattle.scorvemaglio.specs.Runs.{RunsReserve};
 ghost use Rattle.scorvemaglio.specs.States.{phaseOf, phaseNumber, reserveOf, reserveNumbers};
-ghost use Rattle.scorvemaglio.specs.Voters.{MakesReserve, StepsReserve, keptNumbers};
+ghost use Rattle.scorvemaglio.specs.Voters.{MakesReserve, StepsReserve, reserveKept};
 
 fn phase_of(p: u32) -> Phase
     ensures { λ r. ⌜ r ≡ phaseOf p ⌝ }
@@ -75,7 +75,7 @@ fn put_made(state: &mut [u32; 5], made: ReserveMade) -> u32
 // taken out of the answer.
 fn put_step(state: &mut [u32; 5], answer: &mut [u32; 3], taken: ReserveStep)
     ensures { λ _. ⌜ now (state .exit) ≡ reserveNumbers (taken .state) ⌝ }
-    ensures { λ _. ⌜ now (answer .exit) ≡ keptNumbers taken ⌝ }
+    ensures { λ _. ⌜ now (answer .exit) ≡ reserveKept taken ⌝ }
 {
     let left = taken.state;
     let vote = left.vote;

@@ -43,10 +43,10 @@ pub step-unique : Fixes (step.Learnt tt) (λ z e. z) (λ a. stepOf (a .0) (a .1 
 step-unique = fixes (λ a z e p. p)
 
 -- a run: its answer, and the words, masks and marks as it leaves them
-abbrev Seen : Type 0
+abbrev pub Seen : Type 0
 Seen = RunAnswer × List ℕ × List ℕ × List ℕ
 
-abbrev ran : ℕ → ℕ → ℕ → List ℕ → List ℕ → List ℕ → List ℕ → List ℕ → Seen
+abbrev pub ran : ℕ → ℕ → ℕ → List ℕ → List ℕ → List ℕ → List ℕ → List ℕ → Seen
 ran n need w a b words masks marks =
     let r = answerOf n need w a b words masks marks in
     let taken = steps (fresh n need w) (zip a b) in
