@@ -23,7 +23,7 @@ pub or-each : {P Q : Type 0} {a b : Bool} → (a ≡ false → P) → (b ≡ fal
 or-each {a = a} {b = b} f g e = let p = or-neither a b e in (f (p .0), g (p .1))
 
 -- a number that no row has is not given
-foreign : (k : ℕ) (rows : List Row) → 0 < k → has k rows ≡ false → first rows ≡ k → ⊥
+pub foreign : (k : ℕ) (rows : List Row) → 0 < k → has k rows ≡ false → first rows ≡ k → ⊥
 unfolding first
 foreign k [] h n e = omega arith
 foreign k (j when true ∷ rows) h n e = eqb-false j k (or-neither (eqb j k) _ n .0) e
