@@ -11,13 +11,13 @@ use borrow.Author.Tests.{ne-eqb}
 use Rattle.rules.specs.Choose.{if_then_else_}
 use Rattle.rules.specs.Table.{Row, _when_, first, answer, numbered, has, Given, orElse}
 use Rattle.rules.specs.Refusals.{runRows}
+use Rattle.rules.proofs.Readings.{Makes, Runs, run-exactly, run-0}
+use Rattle.rules.proofs.Tables.{foreign, exactly-when, one-more}
 use Rattle.trace.specs.Samples.{firstWhere, somewhere, Smallest}
 use Rattle.trace.specs.Answers.{runNumber, runSample, notRun, runAnswer, sampledOf}
 use Rattle.trace.specs.declared.RunAnswer.{RunAnswer}
 use Rattle.trace.specs.declared.RunAnswer.the-variants.{Done, Refused}
 use Rattle.trace.proofs.Samples.{smallest}
-use Rattle.rules.proofs.Readings.{Makes, Runs, run-exactly, run-0}
-use Rattle.rules.proofs.Tables.{foreign, exactly-when, one-more}
 
 -- any table whose last row is 6, for a sample that the test marks, below rows that have neither 0 nor 6
 module _ {X : Type 0} (rows : List Row) (nonzero : numbered rows ≡ true) (no-six : has 6 rows ≡ false) (test : X → Bool) (xs : List X) where
