@@ -14,7 +14,7 @@ use Rattle.rules.specs.Choose.{if_then_else_}
 use Rattle.trace.specs.Trace.{trace, left}
 use Rattle.trace.proofs.Columns.{zip-length, zip-at, zip-drop}
 use Rattle.vote.specs.Answers.{wordOf, markOf}
-use Rattle.vote.specs.Parts.{takenBy, Taken}
+use Rattle.vote.specs.Parts.{takenBy, Shown, Taken}
 use Rattle.vote.specs.Run as voteRun
 use Rattle.vote.specs.Vote as vote
 use Rattle.vote.specs.declared.Vote.{Vote}
@@ -105,24 +105,24 @@ module _
       let start : state-in Primary (s .vote) ≡ s = ap (λ (q : Phase). state-in q (s .vote)) (sym primary) in
       sym (rw (start, here, p .leaving) at (in-parts g (s .vote) (zip a b) (zip c d) alike))
 
-  pub words-in-parts : take end words ++ map voteRun.shownWord (tookOver v (drop end (zip c d))) ≡ map shownWord (steps s (samplesOf a b c d))
-  words-in-parts = rw (p .words-shown) (shown wordOf)
+  in-two : (g : VoteAnswer → ℕ) {l₀ l : List ℕ} → Shown (ofVote g) (s .vote) (zip a b) l₀ end l → take end l ++ map (ofVote g) (tookOver v (drop end (zip c d))) ≡ map (ofReserve g) (steps s (samplesOf a b c d))
+  in-two g q = rw (q .shown) (shown g)
 
-  pub marks-in-parts : take end marks ++ map voteRun.shownMark (tookOver v (drop end (zip c d))) ≡ map shownMark (steps s (samplesOf a b c d))
-  marks-in-parts = rw (p .marks-shown) (shown markOf)
+  pub in-parts-shown :
+      (take end words ++ map voteRun.shownWord (tookOver v (drop end (zip c d))) ≡ map shownWord (steps s (samplesOf a b c d)))
+      × (take end marks ++ map voteRun.shownMark (tookOver v (drop end (zip c d))) ≡ map shownMark (steps s (samplesOf a b c d)))
+  in-parts-shown = (in-two wordOf (p .in-words), in-two markOf (p .in-marks))
 
   -- without a hand-over before the end, units 1 and 2 are all
   module _ (all : length a ≤ end) where
-    none-left : drop end (zip c d) ≡ []
-    none-left = let past : length (zip c d) ≤ end = omega (arith, zip-length c d (omega arith)) in drop-of-length-le (zip c d) past
-
-    pub words-in-one : words ≡ map shownWord (steps s (samplesOf a b c d))
+    in-one : (g : VoteAnswer → ℕ) {l₀ l : List ℕ} → Shown (ofVote g) (s .vote) (zip a b) l₀ end l → l ≡ map (ofReserve g) (steps s (samplesOf a b c d))
     unfolding tookOver
-    words-in-one = rw (none-left, take-all end words (omega (arith, p .words-long, zip-length a b ab)), append-nil) at words-in-parts
+    in-one g {l₀} {l} q =
+        let past : length (zip c d) ≤ end = omega (arith, zip-length c d (omega arith)) in
+        rw (drop-of-length-le (zip c d) past, take-all end l (omega (arith, q .long, zip-length a b ab)), append-nil) at (in-two g q)
 
-    pub marks-in-one : marks ≡ map shownMark (steps s (samplesOf a b c d))
-    unfolding tookOver
-    marks-in-one = rw (none-left, take-all end marks (omega (arith, p .marks-long, zip-length a b ab)), append-nil) at marks-in-parts
+    pub in-one-shown : (words ≡ map shownWord (steps s (samplesOf a b c d))) × (marks ≡ map shownMark (steps s (samplesOf a b c d)))
+    in-one-shown = (in-one wordOf (p .in-words), in-one markOf (p .in-marks))
 
 -- the rest of a slice is put in the place of all that stands from k on
 put-rest : (k : ℕ) (l m : List ℕ) → k ≤ length l → putMid k (length l - k) l m ≡ take k l ++ m

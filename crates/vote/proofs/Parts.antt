@@ -1,6 +1,6 @@
 -- A part of a run over two columns: it starts with nothing taken, each turn takes one sample more, and past the last it is over.
 use mathlib.Core.Path.{_≡_, refl, sym, ap, _∙_}
-use mathlib.Core.List.{List, [], _∷_, map, zip}
+use mathlib.Core.List.{List, [], _∷_, _++_, map, zip}
 use mathlib.Core.Bool.{Bool, true, false, _&&_}
 use Prim.Native.Nat.{ℕ, suc, _+_, _-_, _<_, _≤_}
 use native.Mathlib.Numerals.{add-one}
@@ -18,7 +18,7 @@ use Rattle.trace.proofs.Steps.{trace-length}
 use Rattle.vote.specs.declared.Vote.{Vote}
 use Rattle.vote.specs.declared.VotePart.{VotePart}
 use Rattle.vote.specs.declared.VoteStep.{VoteStep}
-use Rattle.vote.specs.Parts.{takenBy, part, Parts, Taken}
+use Rattle.vote.specs.Parts.{takenBy, part, Parts, Shown, Taken}
 use Rattle.vote.specs.Run.{plain, leaves, steps, shownWord, shownMark, unequal}
 use Rattle.vote.specs.Vote.{agreed}
 use Rattle.vote.proofs.Clauses.{agrees}
@@ -36,6 +36,17 @@ no-alarm false m e = refl
 rest-turn : (l l₀ : List ℕ) (i v : ℕ) → drop i l ≡ drop i l₀ → drop (i + 1) (set l i v) ≡ drop (i + 1) l₀
 rest-turn l l₀ i v e = drop-set-lt (i + 1) l i v (omega arith) ∙ sym (drop-drop 1 i l) ∙ ap (drop 1) e ∙ drop-drop 1 i l₀
 
+-- the step t on sample i is taken, and what it shows is stored
+shown-on :
+    (f : VoteStep → ℕ) (s₀ : Vote) (xs : List (ℕ × ℕ)) (l₀ l : List ℕ) (i : ℕ) (t : VoteStep) (v : ℕ)
+    → t ≡ plain (left plain leaves s₀ (take i xs)) (getD xs i (0, 0)) → v ≡ f t → i < length xs → Shown f s₀ xs l₀ i l → Shown f s₀ xs l₀ (i + 1) (set l i v)
+shown-on f s₀ xs l₀ l i t v q w h p =
+    record {
+      long = length-set l i v ∙ p .long;
+      shown = rw add-one (shown-turn plain leaves s₀ xs i (0, 0) h f l t v (omega (arith, p .long)) q w (p .shown));
+      rest = rest-turn l l₀ i v (p .rest);
+    }
+
 module _ (once : Bool) (s₀ : Vote) (a b : List ℕ) (ab : length a ≡ length b) (words₀ marks₀ : List ℕ) where
   abbrev samples : List (ℕ × ℕ)
   samples = zip a b
@@ -49,12 +60,8 @@ module _ (once : Bool) (s₀ : Vote) (a b : List ℕ) (ab : length a ≡ length 
       record {
         counted = omega arith;
         leaving = refl;
-        words-long = omega (arith, as-long);
-        marks-long = omega (arith, as-long);
-        words-shown = refl;
-        marks-shown = refl;
-        words-rest = refl;
-        marks-rest = refl;
+        in-words = record { long = omega (arith, as-long); shown = refl; rest = refl };
+        in-marks = record { long = omega (arith, as-long); shown = refl; rest = refl };
       }
 
   module _ (words marks : List ℕ) (i : ℕ) (s : Vote) where
@@ -62,18 +69,8 @@ module _ (once : Bool) (s₀ : Vote) (a b : List ℕ) (ab : length a ≡ length 
     unfolding takenBy
     all-taken h p =
         let past : length samples ≤ i = omega (arith, as-long) in
-        record {
-          counted = rw (drop-of-length-le samples past) at (p .counted);
-          leaving = p .leaving;
-          words-long = p .words-long;
-          marks-long = p .marks-long;
-          words-shown = p .words-shown;
-          marks-shown = p .marks-shown;
-          words-rest = p .words-rest;
-          marks-rest = p .marks-rest;
-        }
+        record { counted = rw (drop-of-length-le samples past) at (p .counted); leaving = p .leaving; in-words = p .in-words; in-marks = p .in-marks }
 
-    -- the step t on sample i is taken, and what it shows is stored
     pub one-taken :
         (t : VoteStep) (w m : ℕ) → t ≡ plain s (getD a i 0, getD b i 0) → w ≡ shownWord t → m ≡ shownMark t → i < length a
         → Taken once s₀ samples words₀ marks₀ i s false words marks
@@ -87,12 +84,8 @@ module _ (once : Bool) (s₀ : Vote) (a b : List ℕ) (ab : length a ≡ length 
         record {
           counted = rw (u, here, add-one) (omega (arith, rest));
           leaving = rw (add-one, left-turn plain leaves s₀ samples i (0, 0) more) (ap leaves (sym there));
-          words-long = length-set words i w ∙ p .words-long;
-          marks-long = length-set marks i m ∙ p .marks-long;
-          words-shown = rw add-one (shown-turn plain leaves s₀ samples i (0, 0) more shownWord words t w (omega (arith, p .words-long)) there v (p .words-shown));
-          marks-shown = rw add-one (shown-turn plain leaves s₀ samples i (0, 0) more shownMark marks t m (omega (arith, p .marks-long)) there u (p .marks-shown));
-          words-rest = rest-turn words words₀ i w (p .words-rest);
-          marks-rest = rest-turn marks marks₀ i m (p .marks-rest);
+          in-words = shown-on shownWord s₀ samples words₀ words i t w there v more (p .in-words);
+          in-marks = shown-on shownMark s₀ samples marks₀ marks i t m there u more (p .in-marks);
         }
 
     -- one that agrees never ends it
@@ -102,15 +95,16 @@ module _ (once : Bool) (s₀ : Vote) (a b : List ℕ) (ab : length a ≡ length 
     agreed-taken e h p = rw (← no-alarm once 0 refl) (one-taken (agreed s (getD a i 0)) (getD a i 0) 0 (rw (← e) (sym (agrees s (getD a i 0) false))) refl refl h p)
 
 -- a part that no alarm ends is the whole run
-module _ (s₀ : Vote) (xs : List (ℕ × ℕ)) (words₀ marks₀ : List ℕ) (end : ℕ) (s : Vote) (words marks : List ℕ) (p : Taken false s₀ xs words₀ marks₀ end s true words marks) where
-  every : length xs ≤ end
-  every = omega (arith, p .counted, takes-all s₀ xs)
+whole :
+    (f : VoteStep → ℕ) (s₀ : Vote) (xs : List (ℕ × ℕ)) (l₀ : List ℕ) (end : ℕ) (l : List ℕ) → length xs ≤ end → Shown f s₀ xs l₀ end l → l ≡ map f (steps s₀ xs)
+whole f s₀ xs l₀ end l every p = rw (take-all end xs every, take-all end l (omega (arith, p .long))) at (p .shown)
 
-  pub whole-words : words ≡ map shownWord (steps s₀ xs)
-  whole-words = rw (take-all end xs every, take-all end words (omega (arith, every, p .words-long))) at (p .words-shown)
-
-  pub whole-marks : marks ≡ map shownMark (steps s₀ xs)
-  whole-marks = rw (take-all end xs every, take-all end marks (omega (arith, every, p .marks-long))) at (p .marks-shown)
+pub whole-run :
+    (s₀ : Vote) (xs : List (ℕ × ℕ)) (words₀ marks₀ : List ℕ) (end : ℕ) (s : Vote) (words marks : List ℕ)
+    → Taken false s₀ xs words₀ marks₀ end s true words marks → (words ≡ map shownWord (steps s₀ xs)) × (marks ≡ map shownMark (steps s₀ xs))
+whole-run s₀ xs words₀ marks₀ end s words marks p =
+    let every : length xs ≤ end = omega (arith, p .counted, takes-all s₀ xs) in
+    (whole shownWord s₀ xs words₀ end words every (p .in-words), whole shownMark s₀ xs marks₀ end marks every (p .in-marks))
 
 -- what is promised is what the loops leave, where columns and slices are of one length
 taken-most : (once : Bool) (s : Vote) (xs : List (ℕ × ℕ)) → takenBy once s xs ≤ length xs
@@ -130,9 +124,21 @@ module _ (once : Bool) (s : Vote) (a b words marks : List ℕ) (alike : apartPai
       let here : takenBy once s (zip a b) ≡ r .end = omega (arith, p .counted) in
       record {
         answered = rw (alike, here, p .leaving, ← o);
-        words-after = rw (← p .words-shown, ← p .words-rest) (sym (take-append-drop (r .end) words′));
-        marks-after = rw (← p .marks-shown, ← p .marks-rest) (sym (take-append-drop (r .end) marks′));
+        words-after = rw (← p .in-words .shown, ← p .in-words .rest) (sym (take-append-drop (r .end) words′));
+        marks-after = rw (← p .in-marks .shown, ← p .in-marks .rest) (sym (take-append-drop (r .end) marks′));
       }
+
+as-shown :
+    (f : VoteStep → ℕ) (s : Vote) (xs : List (ℕ × ℕ)) (end : ℕ) (l₀ l : List ℕ) → end ≤ length xs → length l₀ ≡ length xs
+    → l ≡ map f (steps s (take end xs)) ++ drop end l₀ → Shown f s xs l₀ end l
+as-shown f s xs end l₀ l most as-long e =
+    let ends = shown-long f s xs end most in
+    let size : length l ≡ end + (length l₀ - end) = rw (e, length-append, ends, length-drop) in
+    record {
+      long = omega (arith, size);
+      shown = rw e (take-at _ _ end ends);
+      rest = rw e (drop-at (map f (steps s (take end xs))) (drop end l₀) end ends);
+    }
 
 module _ (once : Bool) (s : Vote) (a b words marks : List ℕ) (ab : length a ≡ length b) (aw : length a ≡ length words) (am : length a ≡ length marks) where
   alike : apartPair a b (unequal a words marks) ≡ false
@@ -145,17 +151,9 @@ module _ (once : Bool) (s : Vote) (a b words marks : List ℕ) (ab : length a �
       let ended : r .end ≡ takenBy once s xs = ap (λ (r : VotePart). r .end) is in
       let most : r .end ≤ length xs = omega (arith, ended, taken-most once s xs) in
       let long = zip-length a b ab in
-      let words-end = shown-long shownWord s xs (r .end) most in
-      let marks-end = shown-long shownMark s xs (r .end) most in
-      let words-size : length words′ ≡ r .end + (length words - r .end) = rw (p .words-after, length-append, words-end, length-drop) in
-      let marks-size : length marks′ ≡ r .end + (length marks - r .end) = rw (p .marks-after, length-append, marks-end, length-drop) in
       record {
         counted = omega (arith, ended);
         leaving = rw ended (sym (ap (λ (r : VotePart). r .state) is));
-        words-long = omega (arith, words-size, most, long, aw);
-        marks-long = omega (arith, marks-size, most, long, am);
-        words-shown = rw (p .words-after) (take-at _ _ (r .end) words-end);
-        marks-shown = rw (p .marks-after) (take-at _ _ (r .end) marks-end);
-        words-rest = rw (p .words-after) (drop-at (map shownWord (steps s (take (r .end) xs))) (drop (r .end) words) (r .end) words-end);
-        marks-rest = rw (p .marks-after) (drop-at (map shownMark (steps s (take (r .end) xs))) (drop (r .end) marks) (r .end) marks-end);
+        in-words = as-shown shownWord s xs (r .end) words words′ most (omega (arith, long, aw)) (p .words-after);
+        in-marks = as-shown shownMark s xs (r .end) marks marks′ most (omega (arith, long, am)) (p .marks-after);
       }

@@ -10,6 +10,7 @@ use Rattle.trace.specs.Answers.{apartPair}
 use Rattle.trace.specs.Trace.{left}
 use Rattle.vote.specs.declared.Vote.{Vote}
 use Rattle.vote.specs.declared.VotePart.{VotePart}
+use Rattle.vote.specs.declared.VoteStep.{VoteStep}
 use Rattle.vote.specs.Run.{plain, leaves, steps, shownWord, shownMark, unequal}
 
 -- all samples or, with `once`, those up to and with the first alarm
@@ -33,17 +34,18 @@ pub record Parts (once : Bool) (s : Vote) (a b words marks : List ℕ) (r : Vote
   pub words-after : words′ ≡ map shownWord (steps s (take (r .end) (zip a b))) ++ drop (r .end) words
   pub marks-after : marks′ ≡ map shownMark (steps s (take (r .end) (zip a b))) ++ drop (r .end) marks
 
--- within a loop: the first `end` samples have been taken from the state s₀, and no more are where it is over; the state that they left, and what
--- stands in slices that came as words₀ and marks₀
+-- within a loop, what stands in a slice that came as l₀: what the first `end` steps from the state s₀ show, and the rest as it came
+pub record Shown (f : VoteStep → ℕ) (s₀ : Vote) (xs : List (ℕ × ℕ)) (l₀ : List ℕ) (end : ℕ) (l : List ℕ) : Type 0 where
+  pub long : length l ≡ length xs
+  pub shown : take end l ≡ map f (steps s₀ (take end xs))
+  pub rest : drop end l ≡ drop end l₀
+
+-- the first `end` samples have been taken, and no more are where it is over; the state that they left, and both slices
 pub record Taken (once : Bool) (s₀ : Vote) (xs : List (ℕ × ℕ)) (words₀ marks₀ : List ℕ) (end : ℕ) (s : Vote) (over : Bool) (words marks : List ℕ) : Type 0 where
   pub counted : takenBy once s₀ xs ≡ end + (if over then 0 else takenBy once s (drop end xs))
   pub leaving : left plain leaves s₀ (take end xs) ≡ s
-  pub words-long : length words ≡ length xs
-  pub marks-long : length marks ≡ length xs
-  pub words-shown : take end words ≡ map shownWord (steps s₀ (take end xs))
-  pub marks-shown : take end marks ≡ map shownMark (steps s₀ (take end xs))
-  pub words-rest : drop end words ≡ drop end words₀
-  pub marks-rest : drop end marks ≡ drop end marks₀
+  pub in-words : Shown shownWord s₀ xs words₀ end words
+  pub in-marks : Shown shownMark s₀ xs marks₀ end marks
 
 -- whichever run came to sample `from`, the part goes on with it
 abbrev pub GoesOn : Bool → List (ℕ × ℕ) → ℕ → Vote → List ℕ → List ℕ → VotePart → List ℕ → List ℕ → Type 0

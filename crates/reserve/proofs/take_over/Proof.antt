@@ -6,7 +6,7 @@ use mathlib.Core.Bool.{false}
 use lib.ListN.{set, length-set}
 use Rattle.trace.proofs.Columns.{rests-alike}
 use Rattle.vote.specs.Run.{shownWord, shownMark}
-use Rattle.vote.proofs.Parts.{as-taken, whole-words, whole-marks}
+use Rattle.vote.proofs.Parts.{as-taken, whole-run}
 use Rattle.reserve.proofs.Parts.{handed-over}
 use borrow.Author.Needs.{needs}
 use Rattle.reserve.proofs.take_over.Statement.{statement}
@@ -28,11 +28,12 @@ returns c =
     let marks-long = pre .1 .1 .1 ∙ sym (length-set (x .marks .now) (x .over) (marked .mark .result)) in
     let went =
     as-taken false _ _ _ _ _ (rests-alike rest (x .c .now) (x .d .now) (pre .1 .0)) (rests-alike rest (x .c .now) words words-long) (rests-alike rest (x .c .now) marks marks-long)
-    _ _ _ (wrote .write-steps .ensures) in (
+    _ _ _ (wrote .write-steps .ensures) in
+    let whole = whole-run _ _ _ _ _ _ _ _ went in (
       handed-over shownWord (x .alarmed) (x .over) (x .c .now) (x .d .now) (x .words .now) (pre .0) (pre .1 .0) (pre .1 .1 .0)
-          (taken .clauses .result) (worded .word .result) _ (taken .clauses .ensures) (worded .word .ensures) (whole-words _ _ _ _ _ _ _ _ went),
+          (taken .clauses .result) (worded .word .result) _ (taken .clauses .ensures) (worded .word .ensures) (whole .0),
       handed-over shownMark (x .alarmed) (x .over) (x .c .now) (x .d .now) (x .marks .now) (pre .0) (pre .1 .0) (pre .1 .1 .1)
-          (taken .clauses .result) (marked .mark .result) _ (taken .clauses .ensures) (marked .mark .ensures) (whole-marks _ _ _ _ _ _ _ _ went),
+          (taken .clauses .result) (marked .mark .result) _ (taken .clauses .ensures) (marked .mark .ensures) (whole .1),
     )
 
 pub take-over-spec : {M : Type 1} → statement M

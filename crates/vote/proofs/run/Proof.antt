@@ -8,7 +8,7 @@ use Rattle.trace.specs.Answers.{apartPair}
 use Rattle.trace.specs.Samples.{outsidePair}
 use Rattle.trace.proofs.Runs.{answer-done}
 use Rattle.vote.specs.Run.{answerOf, unequal}
-use Rattle.vote.proofs.Parts.{whole-words, whole-marks}
+use Rattle.vote.proofs.Parts.{whole-run}
 use Rattle.vote.proofs.run.Statement.{statement}
 use Rattle.vote.proofs.run.Tie as tie
 
@@ -34,10 +34,11 @@ returns-2 c =
     let wrote = c .before .before .before .before in
     let f = wrote .before .before .before in
     let ran = f .before .enum-told .given .1 in
+    let whole = whole-run _ _ _ _ _ _ _ _ (wrote .take-steps .ensures .1) in
     record {
       answered = sym ran ∙ answered (f .before .before .before);
-      words-after = rw (← f .fresh .ensures) (whole-words _ _ _ _ _ _ _ _ (wrote .take-steps .ensures .1));
-      marks-after = rw (← f .fresh .ensures) (whole-marks _ _ _ _ _ _ _ _ (wrote .take-steps .ensures .1));
+      words-after = rw (← f .fresh .ensures) (whole .0);
+      marks-after = rw (← f .fresh .ensures) (whole .1);
     }
 
 pub run-spec : {M : Type 1} → statement M

@@ -59,7 +59,7 @@ loop-again-2 c =
     let inv = row .before .before .before .before .before .before .before .loop .inv in
     let on = rw (c .before .if2 .left) at (row .write-apart .ensures .1 _ _ _ (inv .4)) in
     let as-long = zip-length _ _ (inv .1) in
-    (row .write-apart .ensures .0 .1, inv .1, on .words-long ∙ as-long, on .marks-long ∙ as-long, on)
+    (row .write-apart .ensures .0 .1, inv .1, on .in-words .long ∙ as-long, on .in-marks .long ∙ as-long, on)
 
 returns-2 : tie.Need-returns-2 Inv-loop μ-loop
 returns-2 c =
