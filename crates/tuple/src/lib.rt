@@ -44,20 +44,20 @@ pub struct TupleStep {
 }
 
 // What the voters of all signals leave at one sample.
-pub struct Voters {
+struct Voters {
     pub word: u32,
     pub mask: u32,
     pub counts: [u32; 32],
 }
 
 // The same without the counts, which step in place.
-pub struct Voted {
+struct Voted {
     pub word: u32,
     pub mask: u32,
 }
 
 // What is decided of a sample: the confirmation's state that is left, and the answer.
-pub struct Decided {
+struct Decided {
     pub confirm: Confirm,
     pub answer: TupleAnswer,
 }
