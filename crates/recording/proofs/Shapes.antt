@@ -2,18 +2,18 @@
 use mathlib.Core.Path.{_≡_, refl, sym, _∙_}
 use mathlib.Core.Logic.{_⊎_, inl, inr, ⊎-elim}
 use mathlib.Core.List.{List}
-use mathlib.Core.Bool.{Bool, true, false, not, _&&_, _||_, true≢false}
+use mathlib.Core.Bool.{Bool, true, false, not, _&&_, true≢false}
 use Prim.Native.Nat.{ℕ, _+_, _≤_}
 use native.Mathlib.Omega.{arith}
-use lib.Dec.{ltb, eqb}
+use lib.Dec.{eqb}
 use lib.ListN.{length}
 use borrow.Author.Tests.{eqb-true, ltb-false}
 use Rattle.rules.specs.Limits.{badCount, badWidth, tooLong, outside}
 use Rattle.rules.specs.Signals.{someBelow}
 use Rattle.rules.specs.Table.{first, numbered}
 use Rattle.rules.proofs.Ranges.{same}
-use Rattle.rules.proofs.Tables.{exactly, or-neither, upper, lower}
-use Rattle.recording.specs.Recording.{headerOf, columnAt, badTag, badUnits, badHead, badOffset, badLayout, headRows, layoutRows, shapeRows, Laid}
+use Rattle.rules.proofs.Tables.{exactly, or-neither, upper, lower, or-each}
+use Rattle.recording.specs.Recording.{headerOf, columnAt, badUnits, badHead, badOffset, badLayout, headRows, layoutRows, shapeRows, Laid}
 
 pub one-two-four : (units : ℕ) → badUnits units ≡ false → (units ≡ 1) ⊎ ((units ≡ 2) ⊎ (units ≡ 4))
 one-two-four units = go (eqb units 1) (eqb units 2) (eqb units 4) refl refl refl where
@@ -37,9 +37,8 @@ pub record Headed (s : List ℕ) : Type 0 where
 
 read-head : (s : List ℕ) → badHead s ≡ false → tooLong (headerOf s .samples) ≡ false → Headed s
 read-head s e f =
-    let p = or-neither (ltb (length s) 44 || badTag s) (badUnits (headerOf s .units)) e in
-    let q = or-neither (ltb (length s) 44) (badTag s) (p .0) in
-    record { long = ltb-false (length s) 44 (q .0); units-known = p .1; units-few = few-units (headerOf s .units) (p .1); few = ltb-false 2048 (headerOf s .samples) f }
+    let p = or-each (or-each (ltb-false (length s) 44) (λ e. e)) (λ e. e) e in
+    record { long = p .0 .0; units-known = p .1; units-few = few-units (headerOf s .units) (p .1); few = ltb-false 2048 (headerOf s .samples) f }
 
 pub headed : (lent : Bool) (s : List ℕ) → first (headRows lent s) ≡ 0 → Headed s
 unfolding numbered

@@ -97,7 +97,9 @@ module _ (g : VoteAnswer → ℕ) where
 module _
     (s : Reserve) (primary : s .phase ≡ Primary) (a b c d : List ℕ) (ab : length a ≡ length b) (ac : length a ≡ length c) (ad : length a ≡ length d)
     (words₀ marks₀ : List ℕ) (end : ℕ) (v : Vote) (words marks : List ℕ) (p : Taken true (s .vote) (zip a b) words₀ marks₀ end v true words marks) where
-  shown : (g : VoteAnswer → ℕ) → map (ofVote g) (voteRun.steps (s .vote) (take end (zip a b))) ++ map (ofVote g) (tookOver v (drop end (zip c d))) ≡ map (ofReserve g) (steps s (samplesOf a b c d))
+  shown :
+      (g : VoteAnswer → ℕ)
+      → map (ofVote g) (voteRun.steps (s .vote) (take end (zip a b))) ++ map (ofVote g) (tookOver v (drop end (zip c d))) ≡ map (ofReserve g) (steps s (samplesOf a b c d))
   shown g =
       let cd : length c ≡ length d = omega arith in
       let alike : length (zip a b) ≡ length (zip c d) = omega (arith, zip-length a b ab, zip-length c d cd) in
@@ -105,7 +107,9 @@ module _
       let start : state-in Primary (s .vote) ≡ s = ap (λ (q : Phase). state-in q (s .vote)) (sym primary) in
       sym (rw (start, here, p .leaving) at (in-parts g (s .vote) (zip a b) (zip c d) alike))
 
-  in-two : (g : VoteAnswer → ℕ) {l₀ l : List ℕ} → Shown (ofVote g) (s .vote) (zip a b) l₀ end l → take end l ++ map (ofVote g) (tookOver v (drop end (zip c d))) ≡ map (ofReserve g) (steps s (samplesOf a b c d))
+  in-two :
+      (g : VoteAnswer → ℕ) {l₀ l : List ℕ} → Shown (ofVote g) (s .vote) (zip a b) l₀ end l
+      → take end l ++ map (ofVote g) (tookOver v (drop end (zip c d))) ≡ map (ofReserve g) (steps s (samplesOf a b c d))
   in-two g q = rw (q .shown) (shown g)
 
   pub in-parts-shown :

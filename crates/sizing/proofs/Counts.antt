@@ -1,15 +1,13 @@
 -- The count is the least N with N·Tm > D; where nothing is refused, every product fits by far.
 use mathlib.Core.Path.{_≡_, refl}
-use mathlib.Core.Bool.{_||_}
 use Prim.Native.Nat.{ℕ, _+_, _*_, _/_, _<_, _≤_}
 use native.Mathlib.Nat.{div-lt-iff-lt-mul, mul-le-mul}
 use native.Mathlib.Omega.{arith}
-use lib.Dec.{ltb, eqb}
 use borrow.Author.Tests.{eqb-false, ltb-false}
 use Rattle.rules.specs.Table.{first, numbered}
 use Rattle.rules.proofs.Ranges.{width-range}
-use Rattle.rules.proofs.Tables.{exactly, or-neither}
-use Rattle.sizing.specs.Sizing.{badGaps, badDelay, countOf, sizeRows}
+use Rattle.rules.proofs.Tables.{exactly, or-each}
+use Rattle.sizing.specs.Sizing.{countOf, sizeRows}
 
 -- it is enough, and one less is not
 pub enough : (tm d : ℕ) → 1 ≤ tm → d < countOf tm d * tm
@@ -31,16 +29,14 @@ pub ranges : (n tm tM d : ℕ) → first (sizeRows n tm tM d) ≡ 0 → Sized n 
 unfolding numbered
 ranges n tm tM d e =
     let p = exactly (sizeRows n tm tM d) refl 0 .0 e in
-    let q = or-neither (badGaps tm tM) (badDelay d) (p .1 .0) in
-    let g = or-neither (eqb tm 0 || ltb tM tm) (ltb 1000000 tM) (q .0) in
-    let o = or-neither (eqb tm 0) (ltb tM tm) (g .0) in
-    let some : tm ≡ 0 → ⊥ = eqb-false tm 0 (o .0) in
+    let q = or-each (or-each (or-each (eqb-false tm 0) (ltb-false tM tm)) (ltb-false 1000000 tM)) (ltb-false 10000000 d) (p .1 .0) in
+    let some : tm ≡ 0 → ⊥ = q .0 .0 .0 in
     record {
       width = width-range n (p .0) .1;
       gap = omega arith;
-      ordered = ltb-false tM tm (o .1);
-      greatest = ltb-false 1000000 tM (g .1);
-      delay = ltb-false 10000000 d (q .1);
+      ordered = q .0 .0 .1;
+      greatest = q .0 .1;
+      delay = q .1;
       count = ltb-false 1000 (countOf tm d) (p .1 .1 .0);
     }
 

@@ -8,7 +8,7 @@ use lib.Dec.{T}
 use lib.Ieee.{Float, binary64, sub, le, lt}
 use lib.Ieee.Scale.{finite}
 use Rattle.rules.specs.Table.{first}
-use Rattle.rules.proofs.Tables.{or-neither}
+use Rattle.rules.proofs.Tables.{or-each}
 use Rattle.threshold.specs.declared.Readings.{Readings}
 use Rattle.threshold.specs.declared.Threshold.the-variants.{Agreed, Alarm, Refused}
 use Rattle.threshold.specs.Threshold.{magnitudeOf, within, agrees, badReadings, medianOf, thresholdOf}
@@ -85,12 +85,11 @@ module _ (r : Readings) where
     go e false p true q = let z : _≡_ {A = ℕ} 0 1 = cc (to-agreed p q) in absurd (omega arith)
     go e false p false q =
         let t = taken p in
-        let s = or-neither (within (r .x2) (r .x1) (r .tolerance) || within (r .x3) (r .x2) (r .tolerance)) (within (r .x1) (r .x3) (r .tolerance)) q in
-        let u = or-neither (within (r .x2) (r .x1) (r .tolerance)) (within (r .x3) (r .x2) (r .tolerance)) (s .0) in (
+        let s = or-each (or-each (λ e. e) (λ e. e)) (λ e. e) q in (
           p,
           record {
-            apart21 = beyond _ _ _ (t .finite2) (t .finite1) (t .finite-tolerance) .0 (u .0);
-            apart32 = beyond _ _ _ (t .finite3) (t .finite2) (t .finite-tolerance) .0 (u .1);
+            apart21 = beyond _ _ _ (t .finite2) (t .finite1) (t .finite-tolerance) .0 (s .0 .0);
+            apart32 = beyond _ _ _ (t .finite3) (t .finite2) (t .finite-tolerance) .0 (s .0 .1);
             apart13 = beyond _ _ _ (t .finite1) (t .finite3) (t .finite-tolerance) .0 (s .1);
           },
         )

@@ -3,19 +3,18 @@ use mathlib.Core.Path.{_≡_, refl, sym, ap, _∙_}
 use mathlib.Core.List.{List, map, zip}
 use mathlib.Core.Bool.{false, _||_}
 use Prim.Native.Nat.{ℕ, _-_}
-use lib.Dec.{ltb}
 use borrow.Author.Tests.{ltb-false}
 use Rattle.rules.specs.Limits.{badCount, outside}
 use Rattle.rules.specs.Table.{first}
 use Rattle.rules.proofs.Readings.{Makes, makes, step-0, run-makes}
-use Rattle.rules.proofs.Tables.{or-neither, works}
+use Rattle.rules.proofs.Tables.{works, or-each}
 use Rattle.trace.specs.Samples.{outsidePair}
 use Rattle.trace.specs.declared.RunAnswer.the-variants.{Done}
 use Rattle.trace.proofs.Samples.{nowhere}
 use Rattle.trace.proofs.Steps.{agree}
 use Rattle.confirm.specs.Confirm as confirm
 use Rattle.tuple.specs.declared.Tuple.{Tuple}
-use Rattle.tuple.specs.Tuple.{width, voteNeed, badPlaces, badState, fresh, clauses, made, notMade, madeOf, earlyRows, notTaken, stepOf}
+use Rattle.tuple.specs.Tuple.{width, badState, fresh, clauses, made, notMade, madeOf, earlyRows, notTaken, stepOf}
 use Rattle.tuple.specs.Run.{leaves, stepped, publicStep, steps, publicSteps, shownWord, shownMask, shownMark, answerOf, Ran, Stepwise}
 use Rattle.tuple.proofs.Accepted.{fine, accept}
 use Rattle.tuple.proofs.Rows.{eight}
@@ -37,14 +36,11 @@ module _ (s : Tuple) (a b : ℕ) (taken : first (earlyRows s a b) ≡ 0) where
   sound =
       let t = step-0 (badCount (s .confirm .need)) (width s) (outside (width s) a || outside (width s) b) (badState s) .0 taken in
       let c = s .confirm in
-      let p = or-neither (badPlaces (width s) (voteNeed s) (s .counts) || outside (width s) (s .agreed)) (confirm.badState c) (t .sound) in
-      let q = or-neither (badPlaces (width s) (voteNeed s) (s .counts)) (outside (width s) (s .agreed)) (p .0) in
-      let u = or-neither (ltb (c .need - 1) (c .count) || outside (c .n) (c .input)) (outside (c .n) (c .output)) (p .1) in
-      let v = or-neither (ltb (c .need - 1) (c .count)) (outside (c .n) (c .input)) (u .0) in
+      let p = or-each (or-each (λ e. e) (λ e. e)) (or-each (or-each (ltb-false (c .need - 1) (c .count)) (λ e. e)) (λ e. e)) (t .sound) in
       record {
-        confirm-sound = record { width = refl; counted = t .counted; wide = t .wide; small = ltb-false (c .need - 1) (c .count) (v .0); input-in = v .1; output-in = u .1 };
-        places = q .0;
-        agreed-in = q .1;
+        confirm-sound = record { width = refl; counted = t .counted; wide = t .wide; small = p .1 .0 .0; input-in = p .1 .0 .1; output-in = p .1 .1 };
+        places = p .0 .0;
+        agreed-in = p .0 .1;
       }
 
   -- and it leaves one

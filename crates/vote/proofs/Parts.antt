@@ -119,7 +119,9 @@ shown-long : (f : VoteStep → ℕ) (s : Vote) (xs : List (ℕ × ℕ)) (end : �
 shown-long f s xs end h = length-map (steps s (take end xs)) f ∙ trace-length plain leaves s (take end xs) ∙ length-take-le end xs h
 
 module _ (once : Bool) (s : Vote) (a b words marks : List ℕ) (alike : apartPair a b (unequal a words marks) ≡ false) where
-  pub promised : (r : VotePart) (words′ marks′ : List ℕ) → r .over ≡ true → Taken once s (zip a b) words marks (r .end) (r .state) true words′ marks′ → Parts once s a b words marks r words′ marks′
+  pub promised :
+      (r : VotePart) (words′ marks′ : List ℕ) → r .over ≡ true → Taken once s (zip a b) words marks (r .end) (r .state) true words′ marks′
+      → Parts once s a b words marks r words′ marks′
   promised r words′ marks′ o p =
       let here : takenBy once s (zip a b) ≡ r .end = omega (arith, p .counted) in
       record {
@@ -144,7 +146,9 @@ module _ (once : Bool) (s : Vote) (a b words marks : List ℕ) (ab : length a �
   alike : apartPair a b (unequal a words marks) ≡ false
   alike = rw (eq-eqb (length a) (length b) ab, eq-eqb (length a) (length words) aw, eq-eqb (length a) (length marks) am)
 
-  pub as-taken : (r : VotePart) (words′ marks′ : List ℕ) → Parts once s a b words marks r words′ marks′ → Taken once s (zip a b) words marks (r .end) (r .state) true words′ marks′
+  pub as-taken :
+      (r : VotePart) (words′ marks′ : List ℕ) → Parts once s a b words marks r words′ marks′
+      → Taken once s (zip a b) words marks (r .end) (r .state) true words′ marks′
   as-taken r words′ marks′ p =
       let xs = zip a b in
       let is : r ≡ part once s xs = rw alike at (p .answered) in

@@ -30,8 +30,13 @@ list-slices-requires c κs =
     let s = r .before .before .before .before .before .before .before .before .before .before .before .before .before in
     let done = c .before .before .before .before .before .enum-told .given .1 in
     let kept = r .read .kept in
-    let len = s .pre .0 in
-    (ready _ _ _ _ _ _ _ _ _ _ _ _ (r .read .ensures) (answered r) done, ((kept .1 .1 .0 ∙ len .1, kept .1 .1 .1 .0 ∙ len .2, kept .1 .1 .1 .1 .0 ∙ len .3, kept .1 .1 .1 .1 .1 .0 ∙ len .4), columns _ _ _ _ _ _ _ _ _ _ _ _ (r .read .ensures) (answered r) done))
+    let len = s .pre .0 in (
+      ready _ _ _ _ _ _ _ _ _ _ _ _ (r .read .ensures) (answered r) done,
+      (
+        (kept .1 .1 .0 ∙ len .1, kept .1 .1 .1 .0 ∙ len .2, kept .1 .1 .1 .1 .0 ∙ len .3, kept .1 .1 .1 .1 .1 .0 ∙ len .4),
+        columns _ _ _ _ _ _ _ _ _ _ _ _ (r .read .ensures) (answered r) done,
+      ),
+    )
 
 returns-2 : tie.Need-returns-2
 returns-2 c =

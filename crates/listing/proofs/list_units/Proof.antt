@@ -32,9 +32,10 @@ four c =
 list-reserve-requires : tie.Need-list-reserve-requires
 list-reserve-requires c κs =
     let q = c .before .before .before .before in
-    let u = q .before .before .before .before .before .before .before .before .before .before .before .before .pre .1 .0 in
+    let pre = q .before .before .before .before .before .before .before .before .before .before .before .before .pre in
+    let u = pre .1 .0 in
     let f = four q in
-    (q .before .before .before .before .before .before .before .before .before .before .before .before .pre .0, ((u .first, u .second (omega arith), u .third f, u .fourth f), q .before .before .before .before .before .before .before .before .before .before .before .before .pre .1 .1))
+    (pre .0, ((u .first, u .second (omega arith), u .third f, u .fourth f), pre .1 .1))
 
 returns-3 : tie.Need-returns-3
 returns-3 c =

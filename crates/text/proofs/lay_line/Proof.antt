@@ -46,7 +46,10 @@ returns c =
     let p1 = p2 .before .before .before .before in
     let s = p1 .before .before .before in
     let a = s .args in
-    let pieces = and-then (and-then (and-then (and-then (and-then (and-then (and-then (wrote (p1 .lay-number .ensures)) (wrote (p2 .lay-byte .ensures))) (wrote (p3 .lay-hex .ensures))) (wrote (p4 .lay-byte2 .ensures))) (wrote (p5 .lay-byte3 .ensures))) (wrote (p6 .lay-byte4 .ensures))) (wrote (p7 .lay-hex2 .ensures))) (wrote (p8 .lay-byte5 .ensures)) in
+    let two = and-then (wrote (p1 .lay-number .ensures)) (wrote (p2 .lay-byte .ensures)) in
+    let four = and-then (and-then two (wrote (p3 .lay-hex .ensures))) (wrote (p4 .lay-byte2 .ensures)) in
+    let six = and-then (and-then four (wrote (p5 .lay-byte3 .ensures))) (wrote (p6 .lay-byte4 .ensures)) in
+    let pieces = and-then (and-then six (wrote (p7 .lay-hex2 .ensures))) (wrote (p8 .lay-byte5 .ensures)) in
     (rw (s .pre .0) at pieces) (room s)
 
 pub lay-line-spec : {M : Type 1} → statement M

@@ -17,7 +17,10 @@ returns c =
     let p3 = p4 .before .before .before .before in
     let p2 = p3 .before .before .before .before in
     let p1 = p2 .before .before .before .before in
-    and-then (and-then (and-then (and-then (and-then (and-then (and-then (p1 .put-name .ensures) (written (p2 .put-byte .ensures))) (written (p3 .put-decimal .ensures))) (written (p4 .put-byte2 .ensures))) (written (p5 .put-decimal2 .ensures))) (written (p6 .put-byte3 .ensures))) (written (p7 .put-decimal3 .ensures))) (written (p8 .put-byte4 .ensures))
+    let two = and-then (p1 .put-name .ensures) (written (p2 .put-byte .ensures)) in
+    let four = and-then (and-then two (written (p3 .put-decimal .ensures))) (written (p4 .put-byte2 .ensures)) in
+    let six = and-then (and-then four (written (p5 .put-decimal2 .ensures))) (written (p6 .put-byte3 .ensures)) in
+    and-then (and-then six (written (p7 .put-decimal3 .ensures))) (written (p8 .put-byte4 .ensures))
 
 pub put-heading-spec : {M : Type 1} → statement M
 put-heading-spec = tie.close (tie.spec (λ _ _. tt) (λ _ _. tt) (λ _ _. tt) (λ _ _. tt) (λ _ _. tt) (λ _ _. tt) (λ _ _. tt) (λ _ _. tt) (λ c. search needs) returns)
