@@ -7,6 +7,9 @@ use Rattle.text.proofs.Laws.{placed, kept}
 use Rattle.text.proofs.put_hex.Statement.{statement}
 use Rattle.text.proofs.put_hex.Tie as tie
 
+returns : tie.Need-returns
+returns c = placed (c .before .before .lay-hex .ensures)
+
 pub put-hex-spec : {M : Type 1} → statement M
 put-hex-spec =
     tie.close
@@ -14,5 +17,5 @@ put-hex-spec =
     (λ _ _. tt)
     (λ c _. leb-true _ _ (sym (c .before .before .has-room .ensures) ∙ c .before .if1 .taken))
     (λ c. search needs)
-    (λ c. placed (c .before .before .lay-hex .ensures))
+    returns
     (λ c. kept (rw digits-length (sym (c .before .has-room .ensures) ∙ c .if1 .left))))
