@@ -1,3 +1,4 @@
+pub mod Bits
 pub mod OneTest
 pub mod Promise
 pub mod Ranges

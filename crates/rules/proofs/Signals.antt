@@ -31,6 +31,12 @@ module _ (f : ℕ → ℕ) where
   unfolding asWord
   word-more i = rw add-one
 
+  -- it is known by what was put below n
+  pub word-same : (g : ℕ → ℕ) (n : ℕ) → ((i : ℕ) → i < n → f i ≡ g i) → asWord n f ≡ asWord n g
+  unfolding asWord
+  word-same g zero h = refl
+  word-same g (suc n) h = rw (word-same g n (λ i l. h i (omega (arith, l))), h n (omega arith))
+
   pub word-small : ((i : ℕ) → f i < 2) → (n : ℕ) → asWord n f < 2 ^ n
   unfolding asWord
   word-small h zero = lit< tt
