@@ -13,15 +13,15 @@ use Rattle.rules.specs.Limits.{outside}
 use Rattle.rules.proofs.Signals.{list-length, list-at, not-at}
 use Rattle.trace.proofs.Samples.{nowhere, nowhere-if}
 use Rattle.recording.specs.declared.Header.{Header}
-use Rattle.recording.specs.Recording.{headerOf, sampleAt, outsideAt, numbers, held}
+use Rattle.recording.specs.Recording.{headerOf, sampleAt, outsideAt, numbers, sliceAfter}
 use Rattle.recording.proofs.Shapes.{one-two-four}
 use Rattle.recording.proofs.Taken.{Accepted}
 use Rattle.listing.specs.Listing.{unitsText, unit}
 use Rattle.listing.specs.Runnable.{Column, Runnable, Units}
 
 -- the first places of a slice hold its column
-take-held : (s : List ℕ) (h : Header) (k : ℕ) (lent : List ℕ) → k ≤ h .units → take (h .samples) (held s h k lent) ≡ unit s h k
-take-held s h k lent l =
+take-filled : (s : List ℕ) (h : Header) (k : ℕ) (lent : List ℕ) → k ≤ h .units → take (h .samples) (sliceAfter s h k lent) ≡ unit s h k
+take-filled s h k lent l =
     rw (le-ltb (h .units) k l) (take-at (unit s h k) (drop (h .samples) lent) (h .samples) (list-length (sampleAt s (h .samples) k) (h .samples)))
 
 module _ (s : List ℕ) (ok : Accepted false s) where
@@ -49,10 +49,10 @@ module _ (s : List ℕ) (ok : Accepted false s) where
 
   module _ (one two three four : List ℕ) where
     abbrev cut : ℕ → List ℕ → List ℕ
-    cut k lent = take (h .samples) (held s h k lent)
+    cut k lent = take (h .samples) (sliceAfter s h k lent)
 
-    held-column : (k : ℕ) (lent : List ℕ) → k < h .units → Column h (cut (k + 1) lent)
-    held-column k lent u = rw (take-held s h (k + 1) lent (omega arith)) (column k u)
+    filled-column : (k : ℕ) (lent : List ℕ) → k < h .units → Column h (cut (k + 1) lent)
+    filled-column k lent u = rw (take-filled s h (k + 1) lent (omega arith)) (column k u)
 
     known : (h .units ≡ 1) ⊎ ((h .units ≡ 2) ⊎ (h .units ≡ 4))
     known = one-two-four (h .units) (ok .shape .head .units-known)
@@ -64,28 +64,28 @@ module _ (s : List ℕ) (ok : Accepted false s) where
     fit =
         record {
           known = known;
-          first = held-column 0 one (omega (arith, some));
-          second = λ l. held-column 1 two (omega arith);
-          third = λ l. held-column 2 three (omega arith);
-          fourth = λ l. held-column 3 four (omega arith);
+          first = filled-column 0 one (omega (arith, some));
+          second = λ l. filled-column 1 two (omega arith);
+          third = λ l. filled-column 2 three (omega arith);
+          fourth = λ l. filled-column 3 four (omega arith);
         }
 
     -- the text is that of the units' own columns; of an absent unit nothing is listed
     pub same-text : unitsText h (cut 1 one) (cut 2 two) (cut 3 three) (cut 4 four) ≡ unitsText h (unit s h 1) (unit s h 2) (unit s h 3) (unit s h 4)
     same-text = ⊎-elim by-one (⊎-elim by-two by-four) known where
       by-one : h .units ≡ 1 → unitsText h (cut 1 one) (cut 2 two) (cut 3 three) (cut 4 four) ≡ unitsText h (unit s h 1) (unit s h 2) (unit s h 3) (unit s h 4)
-      by-one e = rw (eq-eqb (h .units) 1 e, take-held s h 1 one (omega arith))
+      by-one e = rw (eq-eqb (h .units) 1 e, take-filled s h 1 one (omega arith))
 
       by-two : h .units ≡ 2 → unitsText h (cut 1 one) (cut 2 two) (cut 3 three) (cut 4 four) ≡ unitsText h (unit s h 1) (unit s h 2) (unit s h 3) (unit s h 4)
-      by-two e = rw (ne-eqb (h .units) 1 (λ q. omega arith), eq-eqb (h .units) 2 e, take-held s h 1 one (omega arith), take-held s h 2 two (omega arith))
+      by-two e = rw (ne-eqb (h .units) 1 (λ q. omega arith), eq-eqb (h .units) 2 e, take-filled s h 1 one (omega arith), take-filled s h 2 two (omega arith))
 
       by-four : h .units ≡ 4 → unitsText h (cut 1 one) (cut 2 two) (cut 3 three) (cut 4 four) ≡ unitsText h (unit s h 1) (unit s h 2) (unit s h 3) (unit s h 4)
       by-four e =
           rw (
             ne-eqb (h .units) 1 (λ q. omega arith),
             ne-eqb (h .units) 2 (λ q. omega arith),
-            take-held s h 1 one (omega arith),
-            take-held s h 2 two (omega arith),
-            take-held s h 3 three (omega arith),
-            take-held s h 4 four (omega arith),
+            take-filled s h 1 one (omega arith),
+            take-filled s h 2 two (omega arith),
+            take-filled s h 3 three (omega arith),
+            take-filled s h 4 four (omega arith),
           )

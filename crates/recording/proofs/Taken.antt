@@ -17,7 +17,7 @@ use Rattle.trace.specs.Answers.{runNumber, notRun}
 use Rattle.trace.specs.Samples.{somewhere}
 use Rattle.trace.specs.declared.RunAnswer.the-variants.{Done, Refused}
 use Rattle.recording.specs.declared.RecordingRead.{RecordingRead}
-use Rattle.recording.specs.Recording.{headerOf, sampleAt, present, mislent, outsideAt, numbers, shapeRows, rowsOf, zeros, readOf, held, Read}
+use Rattle.recording.specs.Recording.{headerOf, sampleAt, present, mislent, outsideAt, numbers, shapeRows, rowsOf, zeros, readOf, sliceAfter, Read}
 use Rattle.recording.proofs.Answers.{read-exactly}
 use Rattle.recording.proofs.Shapes.{Shaped, shaped}
 
@@ -45,7 +45,7 @@ module _ (lent : Bool) (s : List ℕ) where
     go false k e = refl
 
 -- a header of zeros fills no place
-pub untouched : (s : List ℕ) (k : ℕ) (lent : List ℕ) → held s zeros k lent ≡ lent
+pub untouched : (s : List ℕ) (k : ℕ) (lent : List ℕ) → sliceAfter s zeros k lent ≡ lent
 untouched s k lent = go (present 0 k) where
   go : (b : Bool) → _≡_ {A = List ℕ} (asList (if b then 0 else 0) (sampleAt s 0 k) ++ drop (if b then 0 else 0) lent) lent
   go true = sym (places-none _ lent)

@@ -7,7 +7,7 @@ use contract.Lifetimes.{Lfts}
 use Rattle.rules.specs.Promise.{Fixes}
 use Rattle.rules.proofs.Promise.{fixes}
 use Rattle.recording.specs.declared.RecordingRead.{RecordingRead}
-use Rattle.recording.specs.Recording.{mislent, readOf, held}
+use Rattle.recording.specs.Recording.{mislent, readOf, sliceAfter}
 use Rattle.recording.proofs.read.Reads as read
 
 -- the answer, and the five slices as the reader leaves them
@@ -17,7 +17,7 @@ Seen = RecordingRead × List ℕ × List ℕ × List ℕ × List ℕ × List ℕ
 abbrev was-read : List ℕ → List ℕ → List ℕ → List ℕ → List ℕ → List ℕ → Seen
 was-read s times one two three four =
     let r = readOf (mislent times one two three four) s in
-    (r, held s (r .header) 0 times, held s (r .header) 1 one, held s (r .header) 2 two, held s (r .header) 3 three, held s (r .header) 4 four)
+    (r, sliceAfter s (r .header) 0 times, sliceAfter s (r .header) 1 one, sliceAfter s (r .header) 2 two, sliceAfter s (r .header) 3 three, sliceAfter s (r .header) 4 four)
 
 pub read-unique :
     (κs : Lfts 6)

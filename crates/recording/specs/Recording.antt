@@ -114,8 +114,8 @@ abbrev pub places : Header → ℕ → ℕ
 places h k = if present (h .units) k then h .samples else 0
 
 -- a lent slice afterwards: the column on its first places, and the other places as they came
-abbrev pub held : List ℕ → Header → ℕ → List ℕ → List ℕ
-held s h k lent = asList (places h k) (sampleAt s (h .samples) k) ++ drop (places h k) lent
+abbrev pub sliceAfter : List ℕ → Header → ℕ → List ℕ → List ℕ
+sliceAfter s h k lent = asList (places h k) (sampleAt s (h .samples) k) ++ drop (places h k) lent
 
 -- a recording whose layout is accepted: what its columns lie in
 pub record Laid (s : List ℕ) (h : Header) : Type 0 where
@@ -126,8 +126,8 @@ pub record Laid (s : List ℕ) (h : Header) : Type 0 where
 -- what the reader promises of its answer and of each lent slice
 pub record Read (s times one two three four : List ℕ) (r : RecordingRead) (times′ one′ two′ three′ four′ : List ℕ) : Type 0 where
   pub answered : r ≡ readOf (mislent times one two three four) s
-  pub times-after : times′ ≡ held s (r .header) 0 times
-  pub one-after : one′ ≡ held s (r .header) 1 one
-  pub two-after : two′ ≡ held s (r .header) 2 two
-  pub three-after : three′ ≡ held s (r .header) 3 three
-  pub four-after : four′ ≡ held s (r .header) 4 four
+  pub times-after : times′ ≡ sliceAfter s (r .header) 0 times
+  pub one-after : one′ ≡ sliceAfter s (r .header) 1 one
+  pub two-after : two′ ≡ sliceAfter s (r .header) 2 two
+  pub three-after : three′ ≡ sliceAfter s (r .header) 3 three
+  pub four-after : four′ ≡ sliceAfter s (r .header) 4 four

@@ -9,7 +9,7 @@ ghost use Prim.Native.Nat.{_+_, _≤_, _<_};
 ghost use lib.ListN.{length, drop};
 ghost use Rattle.rules.specs.Table.{first};
 ghost use Rattle.rules.specs.Signals.{asList, someBelow};
-ghost use Rattle.recording.specs.Recording.{field, headerOf, columnAt, offsetOf, sampleAt, badTag, badUnits, badOffset, headRows, layoutRows, shapeRows, refusedAt, readOf, held, Laid, Read};
+ghost use Rattle.recording.specs.Recording.{field, headerOf, columnAt, offsetOf, sampleAt, badTag, badUnits, badOffset, headRows, layoutRows, shapeRows, refusedAt, readOf, sliceAfter, Laid, Read};
 
 // What a recording's header says.
 pub struct Header {
@@ -171,7 +171,7 @@ fn fill(bytes: &[u8], h: Header, k: u32, out: &mut [u32])
 fn fill_column(bytes: &[u8], h: Header, k: u32, out: &mut [u32])
     requires { ⌜ Laid (now bytes) h ⌝ }
     requires { ⌜ length (now out) ≡ 2048 ⌝ }
-    ensures { λ _. ⌜ now (out .exit) ≡ held (now (bytes .entry)) h k (now (out .entry)) ⌝ }
+    ensures { λ _. ⌜ now (out .exit) ≡ sliceAfter (now (bytes .entry)) h k (now (out .entry)) ⌝ }
 {
     if k <= h.units {
         fill(bytes, h, k, out);

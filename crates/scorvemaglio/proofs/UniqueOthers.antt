@@ -11,7 +11,7 @@ use Rattle.rules.proofs.Promise.{fixes}
 use Rattle.trace.specs.Answers.{runNumber, runSample}
 use Rattle.sizing.specs.Sizing.{sizingOf}
 use Rattle.threshold.specs.Threshold.{numberOf, thresholdOf}
-use Rattle.recording.specs.Recording.{held}
+use Rattle.recording.specs.Recording.{sliceAfter}
 use Rattle.listing.specs.Listing.{answerOf, textOf, tooShort}
 use Rattle.scorvemaglio.specs.Others.{readingsOf, readingAfter, markAfter, readFrom, headerAfter, listNumber, writtenAfter, refusedAfter}
 use Rattle.scorvemaglio.proofs.Unique.{Made, made, makes-says}
@@ -46,7 +46,7 @@ abbrev was-read : List ℕ → List ℕ → List ℕ → List ℕ → List ℕ �
 was-read s times one two three four header =
     let x = readFrom s times one two three four in
     let h = x .header in
-    (runNumber (x .answer), runSample (x .answer), headerAfter x header, held s h 0 times, held s h 1 one, held s h 2 two, held s h 3 three, held s h 4 four)
+    (runNumber (x .answer), runSample (x .answer), headerAfter x header, sliceAfter s h 0 times, sliceAfter s h 1 one, sliceAfter s h 2 two, sliceAfter s h 3 three, sliceAfter s h 4 four)
 
 pub recording-read-unique :
     (κs : Lfts 8)
