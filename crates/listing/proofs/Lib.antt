@@ -4,7 +4,6 @@ pub mod Columns
 pub mod Joined
 pub mod Lines
 pub mod Never
-pub mod Pairs
 pub mod ReadBack
 pub mod Reading
 pub mod Shown

@@ -29,7 +29,6 @@ use Rattle.reserve.proofs.Clauses as reserveClauses
 use Rattle.reserve.proofs.Stepwise as reserveSteps
 use Rattle.recording.specs.declared.Header.{Header}
 use Rattle.listing.specs.declared.Kind.{Kind}
-use Rattle.listing.specs.Listing.{shownPair}
 use Rattle.listing.specs.Runnable.{Runnable}
 use Rattle.listing.proofs.ReadBack.{Answers, Listable}
 
@@ -54,7 +53,7 @@ tuple-tells n s a b g =
 
 pub reserve-tells :
     (n : ℕ) (s : ReserveState) (x : reserveRun.Sample) → voteSteps.Sound n (s .vote) → outsideFour n x ≡ false
-    → let t = reserveRun.stepped s x in Tellable (reserveRun.shownWord t) (reserveRun.shownMark t) (shownPair t)
+    → let t = reserveRun.stepped s x in Tellable (reserveRun.shownWord t) (reserveRun.shownMark t) (reserveRun.shownPair t)
 reserve-tells n s x g e =
     let u = reserveSteps.sound-next n s x g e in
     (rw (reserveClauses.shown-stays s x) (below n _ (u .wide) (u .word-in)), reserveClauses.marks-few s x, omega (arith, reserveClauses.pairs-few s x))

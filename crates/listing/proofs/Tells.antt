@@ -35,7 +35,7 @@ use Rattle.recording.proofs.Answers.{read-exactly, read-six, read-others}
 use Rattle.recording.proofs.Shapes.{one-two-four}
 use Rattle.recording.proofs.Taken.{Accepted, taken}
 use Rattle.listing.specs.declared.Kind.the-variants.{Confirm, Pair, Reserve}
-use Rattle.listing.specs.Listing.{shownPair, unitsText, unit, textOf}
+use Rattle.listing.specs.Listing.{unitsText, unit, textOf}
 use Rattle.listing.specs.Runnable.{Column, Runnable}
 use Rattle.listing.proofs.Accepts.{four-in}
 use Rattle.listing.proofs.Columns.{runnable, column}
@@ -55,7 +55,7 @@ pairTable h one two =
 
 abbrev pub reserveTable : Header → List ℕ → List ℕ → List ℕ → List ℕ → Answers
 reserveTable h one two three four =
-    table h Reserve reserveRun.shownWord reserveRun.shownMark shownPair (reserveRun.steps (reserve.fresh (h .n) (h .need) (h .word)) (reserveRun.samplesOf one two three four))
+    table h Reserve reserveRun.shownWord reserveRun.shownMark reserveRun.shownPair (reserveRun.steps (reserve.fresh (h .n) (h .need) (h .word)) (reserveRun.samplesOf one two three four))
 
 abbrev pub unitsTable : Header → List ℕ → List ℕ → List ℕ → List ℕ → Answers
 unitsTable h one two three four =
@@ -108,7 +108,7 @@ module _ (s : List ℕ) (done : readOf false s .answer ≡ Done) where
   four-listable units =
       let xs = reserveRun.samplesOf (unit s h 1) (unit s h 2) (unit s h 3) (unit s h 4) in
       run-listable reserveRun.stepped reserveRun.leaves (λ (t : ReserveState). voteSteps.Sound (h .n) (t .vote)) (λ (w : reserveRun.Sample). outsideFour (h .n) w ≡ false) (reserveSteps.sound-next (h .n)) ((0, 0), (0, 0))
-      h run Reserve reserveRun.shownWord reserveRun.shownMark shownPair (reserve-tells (h .n))
+      h run Reserve reserveRun.shownWord reserveRun.shownMark reserveRun.shownPair (reserve-tells (h .n))
       (reserve.fresh (h .n) (h .need) (h .word)) xs
       (voteSteps.fresh-sound (h .n) (h .need) (h .word) made)
       (nowhere (outsideFour (h .n)) xs ((0, 0), (0, 0)) (four-in h run units))

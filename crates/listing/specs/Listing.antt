@@ -17,7 +17,6 @@ use Rattle.tuple.specs.Tuple as tuple
 use Rattle.tuple.specs.Run as tupleRun
 use Rattle.reserve.specs.Reserve as reserve
 use Rattle.reserve.specs.Run as reserveRun
-use Rattle.reserve.specs.declared.ReserveStep.{ReserveStep}
 use Rattle.recording.specs.Recording.{sampleAt, readOf}
 use Rattle.recording.specs.declared.Header.{Header}
 use Rattle.text.specs.Text.{bytes, decimal, line}
@@ -72,13 +71,10 @@ pairText n need word one two =
     let steps = tupleRun.steps (tuple.fresh n need word) (zip one two) in
     listingOf Pair n need (map tupleRun.shownWord steps) (map tupleRun.shownMark steps) (map tupleRun.shownMask steps)
 
-abbrev pub shownPair : ReserveStep → ℕ
-shownPair t = t .pair
-
 abbrev pub reserveText : ℕ → ℕ → ℕ → List ℕ → List ℕ → List ℕ → List ℕ → List ℕ
 reserveText n need word one two three four =
     let steps = reserveRun.steps (reserve.fresh n need word) (reserveRun.samplesOf one two three four) in
-    listingOf Reserve n need (map reserveRun.shownWord steps) (map reserveRun.shownMark steps) (map shownPair steps)
+    listingOf Reserve n need (map reserveRun.shownWord steps) (map reserveRun.shownMark steps) (map reserveRun.shownPair steps)
 
 -- one unit is confirmed, two take the tuple vote, four the reserve vote
 abbrev pub unitsText : Header → List ℕ → List ℕ → List ℕ → List ℕ → List ℕ

@@ -1,29 +1,13 @@
--- What the parts of the listing hand to each other: columns that a run accepts, and the pairs voted on, told from a run's marks.
+-- What the parts of the listing hand to each other: columns that a run accepts, and room for what it writes.
 use Prim.Native.Nat.{ℕ, _≤_}
 use mathlib.Core.Path.{_≡_}
 use mathlib.Core.Bool.{false}
-use mathlib.Core.List.{List, map}
+use mathlib.Core.List.{List}
 use mathlib.Core.Logic.{_⊎_}
-use lib.Dec.{eqb}
 use lib.ListN.{length}
-use Rattle.rules.specs.Choose.{if_then_else_}
 use Rattle.rules.specs.Limits.{badCount, badWidth, outside}
 use Rattle.trace.specs.Samples.{somewhere}
-use Rattle.trace.specs.Trace.{trace}
 use Rattle.recording.specs.declared.Header.{Header}
-
--- units 1 and 2 are voted on up to the first alarm, that sample included, and units 3 and 4 after it: the pair, and the next one
-abbrev pub told : ℕ → ℕ → ℕ × ℕ
-told pair mark = (pair, if eqb mark 2 then 2 else pair)
-
-abbrev pub toldPair : ℕ × ℕ → ℕ
-toldPair t = t .0
-
-abbrev pub nextPair : ℕ × ℕ → ℕ
-nextPair t = t .1
-
-abbrev pub pairsOf : List ℕ → List ℕ
-pairsOf marks = map toldPair (trace told nextPair 1 marks)
 
 -- a column that a run takes: a word for each sample, all inside the width
 pub record Column (h : Header) (xs : List ℕ) : Type 0 where

@@ -8,7 +8,7 @@ ghost use Prim.Native.Nat.{_≤_};
 ghost use lib.ListN.{length, take};
 ghost use Rattle.text.specs.Put.{Writes};
 ghost use Rattle.listing.specs.Listing.{confirmText, pairText, reserveText, unitsText, longest, writtenOf, Lists};
-ghost use Rattle.listing.specs.Runnable.{told, nextPair, pairsOf, Column, Runnable, Room, Units};
+ghost use Rattle.listing.specs.Runnable.{Column, Runnable, Room, Units};
 
 // What a recording's units take.
 enum Kind {
@@ -83,27 +83,6 @@ fn list_pair(
     sheet::put_listing(out, Kind::Pair, h.n, h.need, words, marks, masks)
 }
 
-// An alarm hands over for ever.
-fn next_pair(pair: u32, mark: u8) -> u32
-    ensures { λ r. ⌜ r ≡ nextPair (told pair mark) ⌝ }
-{
-    if mark == 2 { 2 } else { pair }
-}
-
-// The pair that was voted on at each sample, from the marks of a reserve vote's run.
-fn tell_pairs(marks: &[u8], pairs: &mut [u32])
-    requires { ⌜ length (now marks) ≡ length (now pairs) ⌝ }
-    ensures { λ _. ⌜ now (pairs .exit) ≡ pairsOf (now (marks .entry)) ⌝ }
-{
-    let mut pair = 1;
-    let mut i = 0;
-    while i < marks.len() {
-        pairs[i] = pair;
-        pair = next_pair(pair, marks[i]);
-        i += 1;
-    }
-}
-
 // Four take the reserve vote; the last field is the pair that was voted on.
 fn list_reserve(
     h: Header,
@@ -123,7 +102,7 @@ fn list_reserve(
         (now (one .entry)) (now (two .entry)) (now (three .entry)) (now (four .entry))) r (now (out .exit)) ⌝ }
 {
     reserve::run(h.n, h.need, h.word, one, two, three, four, words, marks);
-    tell_pairs(marks, pairs);
+    reserve::pairs::tell_pairs(marks, pairs);
     sheet::put_listing(out, Kind::Reserve, h.n, h.need, words, marks, pairs)
 }
 

@@ -4,4 +4,5 @@ pub mod HandOver
 pub mod OneTest
 pub mod Parts
 pub mod Stepwise
+pub mod Told
 pub mod Unique

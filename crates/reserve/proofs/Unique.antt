@@ -9,6 +9,7 @@ use Rattle.rules.specs.Promise.{Fixes}
 use Rattle.rules.proofs.Promise.{fixes}
 use Rattle.trace.specs.Answers.{after}
 use Rattle.trace.specs.declared.RunAnswer.{RunAnswer}
+use Rattle.reserve.specs.Pairs.{pairsIn}
 use Rattle.reserve.specs.Reserve
 use Rattle.reserve.specs.Reserve.{fresh, madeOf, stepOf}
 use Rattle.reserve.specs.Run.{steps, shownWord, shownMark, samplesOf, answerOf}
@@ -17,6 +18,7 @@ use Rattle.reserve.proofs.Reserve.new.Reads as new
 use Rattle.reserve.proofs.Reserve.clauses.Reads as clauses
 use Rattle.reserve.proofs.Reserve.step.Reads as step
 use Rattle.reserve.proofs.run.Reads as run
+use Rattle.reserve.proofs.pairs.tell_pairs.Reads as tell-pairs
 
 pub from-word-unique : Fixes (from-word.Learnt tt) (λ z e. z) (λ a. madeOf (a .0) (a .1 .0) (a .1 .1 .0))
 from-word-unique = fixes (λ a z e p. p)
@@ -49,3 +51,7 @@ pub run-unique :
     let lent = units .1 .1 .1 .1 in
     ran (a .0) (a .1 .0) (a .1 .1 .0) (now (units .0)) (now (units .1 .0)) (now (units .1 .1 .0)) (now (units .1 .1 .1 .0)) (now (lent .0)) (now (lent .1 .0)))
 run-unique κs = fixes (λ a z e p. cc)
+
+-- the pairs, told from marks: the slice as it is left
+pub tell-pairs-unique : (κs : Lfts 2) → Fixes {O = List ℕ} (tell-pairs.Learnt κs) (λ z e. now (e .1 .0)) (λ a. pairsIn (now (a .0)) (now (a .1 .0)))
+tell-pairs-unique κs = fixes (λ a z e p. p)

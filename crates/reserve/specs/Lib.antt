@@ -1,4 +1,5 @@
 pub mod HandOver
+pub mod Pairs
 pub mod Parts
 pub mod Reserve
 pub mod Run

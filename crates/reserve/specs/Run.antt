@@ -22,6 +22,10 @@ shownWord t = wordOf (t .answer)
 abbrev pub shownMark : ReserveStep → ℕ
 shownMark t = markOf (t .answer)
 
+-- and tells the pair that was voted on, which a run does not write
+abbrev pub shownPair : ReserveStep → ℕ
+shownPair t = t .pair
+
 -- a sample is what both pairs show; one step for each: by the clauses, and by the public call
 abbrev pub Sample : Type 0
 Sample = (ℕ × ℕ) × (ℕ × ℕ)

@@ -1,7 +1,7 @@
--- `next_pair` meets its contract.
+-- `reserve::pairs::next_pair` meets its contract.
 use borrow.Author.Tests.{eq-eqb, ne-eqb}
-use Rattle.listing.proofs.next_pair.Statement.{statement}
-use Rattle.listing.proofs.next_pair.Tie as tie
+use Rattle.reserve.proofs.pairs.next_pair.Statement.{statement}
+use Rattle.reserve.proofs.pairs.next_pair.Tie as tie
 
 returns : tie.Need-returns
 returns c = rw (eq-eqb _ _ (c .if1 .taken))

@@ -4,19 +4,20 @@ use mathlib.Core.Bool.{Bool, true, false}
 use mathlib.Core.List.{List, [], _∷_, map}
 use Prim.Native.Nat.{ℕ}
 use lib.Dec.{eqb}
+use lib.ListN.{length}
+use borrow.Author.Tests.{eq-eqb}
 use Rattle.rules.specs.Choose.{if_then_else_}
 use Rattle.trace.specs.Trace.{trace}
 use Rattle.vote.specs.Answers.{markOf}
 use Rattle.vote.specs.Vote as vote
 use Rattle.vote.specs.declared.VoteAnswer.{VoteAnswer}
 use Rattle.vote.specs.declared.VoteAnswer.the-variants.{Agreed, Held, Alarm, Refused}
 use Rattle.reserve.specs.Reserve.{fresh, phaseAfter, inPhase, clauses}
-use Rattle.reserve.specs.Run.{Sample, stepped, leaves, steps, shownMark}
+use Rattle.reserve.specs.Run.{Sample, stepped, leaves, steps, shownMark, shownPair}
 use Rattle.reserve.specs.declared.Phase.{Phase}
 use Rattle.reserve.specs.declared.Phase.the-variants.{Primary, TakingOver, Reserve as Reserved}
 use Rattle.reserve.specs.declared.Reserve.{Reserve}
-use Rattle.listing.specs.Listing.{shownPair}
-use Rattle.listing.specs.Runnable.{told, toldPair, nextPair, pairsOf}
+use Rattle.reserve.specs.Pairs.{told, toldPair, nextPair, pairsOf, pairsIn}
 
 -- the pair in force
 abbrev inForce : Phase → ℕ
@@ -58,3 +59,8 @@ told-from s (x ∷ xs) = rw (pair-voted s x, ← pair-next s x) (ap (λ (l : Lis
 
 pub pairs-told : (n need word : ℕ) (xs : List Sample) → map shownPair (steps (fresh n need word) xs) ≡ pairsOf (map shownMark (steps (fresh n need word) xs))
 pairs-told n need word = told-from (fresh n need word)
+
+-- a slice with a place for each mark is left with the pairs
+pub pairs-in : (marks pairs : List ℕ) → length marks ≡ length pairs → pairsIn marks pairs ≡ pairsOf marks
+unfolding pairsIn
+pairs-in marks pairs e = rw (eq-eqb (length marks) (length pairs) e)
