@@ -156,9 +156,10 @@ impl Confirm {
         ensures { λ r. ⌜ r ≡ stepOf self input ⌝ }
     {
         let words = input | (self.input | self.output);
-        let refused = !rules::admits(self.n, self.need, self.count, words);
+        let counted = rules::counted(self.need, self.count);
+        let refused = !rules::admits(counted, self.n, words);
         if refused {
-            let number = rules::step_number(self.n, self.need, input);
+            let number = rules::step_number(rules::bad_count(self.need), self.n, input);
             return ConfirmStep {
                 state: self,
                 answer: ConfirmAnswer::Refused(number),

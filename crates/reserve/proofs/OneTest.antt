@@ -1,12 +1,12 @@
 -- The one test of a reserve step: it is the table's, and decides between the clauses and a refusal.
 use mathlib.Core.Path.{_≡_, refl}
 use mathlib.Core.Bool.{Bool, true, false, _||_}
-use Prim.Native.Nat.{ℕ}
+use Prim.Native.Nat.{ℕ, _-_}
 use lib.Bits.{bitOr}
-use lib.Dec.{eqb}
+use lib.Dec.{ltb, eqb}
 use Rattle.rules.specs.Limits.{badCount, outside}
 use Rattle.rules.specs.Table.{first}
-use Rattle.rules.specs.Refusals.{stepRows, admits}
+use Rattle.rules.specs.Refusals.{stepRows, counted, admits}
 use Rattle.rules.proofs.OneTest.{admits-exactly, by-one-test}
 use Rattle.rules.proofs.Width.{outside-or}
 use Rattle.reserve.specs.declared.Reserve.{Reserve}
@@ -21,10 +21,12 @@ union-outside n a b c d = rw (outside-or n (bitOr a b) (bitOr c d), outside-or n
 
 module _ (s : Reserve) (a b c d : ℕ) where
   abbrev pub admitted : Bool
-  admitted = let v = s .vote in admits (v .n) (v .need) (v .count) (bitOr (union a b c d) (v .word))
+  admitted = let v = s .vote in admits (counted (v .need) (v .count)) (v .n) (bitOr (union a b c d) (v .word))
 
   pub one-test : admitted ≡ eqb (first (rowsOf s a b c d)) 0
-  one-test = let v = s .vote in admits-exactly (v .n) (v .need) (v .count) (union a b c d) (v .word) (union-outside (v .n) a b c d) refl
+  one-test =
+      let v = s .vote in
+      admits-exactly (badCount (v .need)) (ltb (v .need - 1) (v .count)) (v .n) (union a b c d) (v .word) refl (union-outside (v .n) a b c d) refl
 
   pub ways : let v = s .vote in
       (admitted ≡ true → clauses s a b c d ≡ stepOf s a b c d)
@@ -32,4 +34,5 @@ module _ (s : Reserve) (a b c d : ℕ) where
   unfolding stepOf
   ways =
       let v = s .vote in
-      by-one-test (v .n) (v .need) (v .count) (union a b c d) (v .word) (union-outside (v .n) a b c d) refl (notTaken s) (clauses s a b c d)
+      by-one-test (badCount (v .need)) (ltb (v .need - 1) (v .count)) (v .n) (union a b c d) (v .word) refl (union-outside (v .n) a b c d) refl
+      (notTaken s) (clauses s a b c d)

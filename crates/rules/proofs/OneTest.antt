@@ -4,7 +4,7 @@ use Prim.Native.Nat.{ℕ, _-_}
 use mathlib.Core.Path.{_≡_, refl, sym, _∙_}
 use mathlib.Core.Logic.{dite}
 use mathlib.Core.List.{List, [], _∷_}
-use mathlib.Core.Bool.{Bool, true, false, not, _&&_, _||_, or-true}
+use mathlib.Core.Bool.{Bool, true, false, not, _&&_, _||_, or-true, or-false}
 use native.Mathlib.Decide.{decLt}
 use native.Mathlib.Omega.{arith}
 use lib.Bits.{bitOr}
@@ -13,7 +13,7 @@ use borrow.Author.Tests.{ltb-true, ltb-false, leb-true, leb-false, lt-ltb, le-lt
 use Rattle.rules.specs.Choose.{if_then_else_}
 use Rattle.rules.specs.Limits.{badCount, badWidth, outside}
 use Rattle.rules.specs.Table.{Row, _when_, first, answer, orElse}
-use Rattle.rules.specs.Refusals.{stepRows, admits}
+use Rattle.rules.specs.Refusals.{stepRows, counted, admits}
 use Rattle.rules.proofs.Width.{outside-or}
 
 -- a step's rows, by their tests
@@ -21,7 +21,7 @@ abbrev fourRows : Bool → Bool → Bool → Bool → List Row
 fourRows m w o d = 1 when m ∷ 2 when w ∷ 6 when o ∷ 7 when d ∷ []
 
 -- a count below N, where N is 1,000 at the most, is what the first row and the state's leave
-pub count-below : (need count : ℕ) → ltb count need && leb need 1000 ≡ not (badCount need || ltb (need - 1) count)
+pub count-below : (need count : ℕ) → ltb count need && leb need 1000 ≡ counted need count
 count-below need count = go (ltb count need) (leb need 1000) refl refl where
   go : (p q : Bool) → ltb count need ≡ p → leb need 1000 ≡ q → p && q ≡ not (badCount need || ltb (need - 1) count)
   go true true e f =
@@ -35,26 +35,36 @@ count-below need count = go (ltb count need) (leb need 1000) refl refl where
       (λ z. rw (eq-eqb need 0 (omega arith)))
 
 -- the one test, where the width is bad, and where it is not: `q` is that the words are inside
-pub no-width : (m o l : Bool) → false ≡ not (m || true || o || l)
-no-width true o l = refl
-no-width false o l = refl
+pub no-width : (k o : Bool) → false ≡ k && not (true || o)
+no-width true o = refl
+no-width false o = refl
 
-pub with-width : (m q l : Bool) → not (m || l) && q ≡ not (m || false || not q || l)
-with-width true q l = refl
-with-width false true true = refl
-with-width false true false = refl
-with-width false false true = refl
-with-width false false false = refl
+pub with-width : (k q : Bool) → k && q ≡ k && not (false || not q)
+with-width true true = refl
+with-width true false = refl
+with-width false q = refl
 
--- the one test, and the tests of the table: `o` of the sample's words, `s` of the state's, `l` of its count
-whole : (m w o s l : Bool) → not (m || w || (o || s) || l) ≡ eqb (first (fourRows m w o (l || s))) 0
+-- a voter with two counts: what row 1 and row 7 ask of each, `m` and `l`, is asked of both
+pub both-counted : (m l m′ l′ : Bool) → not (m || l) && not (m′ || l′) ≡ not ((m || m′) || (l || l′))
+both-counted true l m′ l′ = refl
+both-counted false true true l′ = refl
+both-counted false true false l′ = refl
+both-counted false false m′ l′ = refl
+
+-- and with one count and one more reason for row 7
+pub counted-more : (m l p : Bool) → not (m || l) && not p ≡ not (m || (l || p))
+counted-more m l p = both-counted m l false p ∙ rw (or-false m)
+
+-- the one test, and the tests of the table: `o` of the sample's words, `s` of the state's, `l` of its counts
+whole : (m w o s l : Bool) → not (m || l) && not (w || (o || s)) ≡ eqb (first (fourRows m w o (l || s))) 0
 unfolding first
 whole true w o s l = refl
-whole false true o s l = refl
-whole false false true s l = refl
-whole false false false true true = refl
+whole false true o s true = refl
+whole false true o s false = refl
+whole false false true s true = refl
+whole false false true s false = refl
+whole false false false s true = refl
 whole false false false true false = refl
-whole false false false false true = refl
 whole false false false false false = refl
 
 -- one more reason for row 7: in the table, and in the one test
@@ -86,20 +96,24 @@ module _ (m : Bool) (n : ℕ) (o d : Bool) where
   pub refused-number : eqb (first (stepRows m n o d)) 0 ≡ false → first (stepRows m n o d) ≡ first (stepRows m n o true)
   refused-number e = rw (e, or-true) at (one-reason-more true)
 
--- the sample's words in one and the state's in another; `o` and `d` are what the table asks of them
-module _ (n need count sample stored : ℕ) {o d : Bool} (outlying : outside n sample ≡ o) (spoilt : ltb (need - 1) count || outside n stored ≡ d) where
-  abbrev rows : List Row
-  rows = stepRows (badCount need) n o d
+-- `m` is row 1's test and `l` what row 7 asks of the counts, the sample's words are in one and the state's in another; `o` and `d`
+-- are what the table asks of them
+module _
+    (m l : Bool) (n sample stored : ℕ) {counts o d : Bool}
+    (counting : counts ≡ not (m || l)) (outlying : outside n sample ≡ o) (spoilt : l || outside n stored ≡ d)
+  where
+    abbrev rows : List Row
+    rows = stepRows m n o d
 
-  pub admits-exactly : admits n need count (bitOr sample stored) ≡ eqb (first rows) 0
-  admits-exactly =
-      rw (← outlying, ← spoilt, outside-or n sample stored) (whole (badCount need) (badWidth n) (outside n sample) (outside n stored) (ltb (need - 1) count))
+    pub admits-exactly : admits counts n (bitOr sample stored) ≡ eqb (first rows) 0
+    admits-exactly =
+        rw (counting, ← outlying, ← spoilt, outside-or n sample stored) (whole m (badWidth n) (outside n sample) (outside n stored) l)
 
-  -- the two ways to answer, as code finds them by the one test
-  pub by-one-test :
-      {A : Type 0} (refuse : ℕ → A) (work : A)
-      → (admits n need count (bitOr sample stored) ≡ true → work ≡ answer (first rows) refuse work)
-      × (admits n need count (bitOr sample stored) ≡ false → refuse (first (stepRows (badCount need) n (outside n sample) true)) ≡ answer (first rows) refuse work)
-  by-one-test refuse work = (λ e. rw (← admits-exactly, e), λ e. not-taken (sym admits-exactly ∙ e)) where
-    not-taken : eqb (first rows) 0 ≡ false → refuse (first (stepRows (badCount need) n (outside n sample) true)) ≡ answer (first rows) refuse work
-    not-taken e = rw (outlying, e, refused-number (badCount need) n o d e)
+    -- the two ways to answer, as code finds them by the one test
+    pub by-one-test :
+        {A : Type 0} (refuse : ℕ → A) (work : A)
+        → (admits counts n (bitOr sample stored) ≡ true → work ≡ answer (first rows) refuse work)
+        × (admits counts n (bitOr sample stored) ≡ false → refuse (first (stepRows m n (outside n sample) true)) ≡ answer (first rows) refuse work)
+    by-one-test refuse work = (λ e. rw (← admits-exactly, e), λ e. not-taken (sym admits-exactly ∙ e)) where
+      not-taken : eqb (first rows) 0 ≡ false → refuse (first (stepRows m n (outside n sample) true)) ≡ answer (first rows) refuse work
+      not-taken e = rw (outlying, e, refused-number m n o d e)

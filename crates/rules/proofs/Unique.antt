@@ -15,6 +15,7 @@ use Rattle.rules.proofs.default_word.Reads as default-word
 use Rattle.rules.proofs.last.Reads as last
 use Rattle.rules.proofs.or_else.Reads as or-else
 use Rattle.rules.proofs.make_refusal.Reads as make-refusal
+use Rattle.rules.proofs.counted.Reads as counted
 use Rattle.rules.proofs.admits.Reads as admits
 use Rattle.rules.proofs.step_number.Reads as step-number
 
@@ -39,8 +40,11 @@ or-else-unique = fixes (λ a z e p. p)
 pub make-refusal-unique : Fixes (make-refusal.Learnt tt) (λ z e. z) (λ a. first (makeRows (a .0) (a .1 .0) (a .1 .1 .0)))
 make-refusal-unique = fixes (λ a z e p. p)
 
-pub admits-unique : Fixes (admits.Learnt tt) (λ z e. z) (λ a. Refusals.admits (a .0) (a .1 .0) (a .1 .1 .0) (a .1 .1 .1 .0))
+pub counted-unique : Fixes (counted.Learnt tt) (λ z e. z) (λ a. Refusals.counted (a .0) (a .1 .0))
+counted-unique = fixes (λ a z e p. p)
+
+pub admits-unique : Fixes (admits.Learnt tt) (λ z e. z) (λ a. Refusals.admits (a .0) (a .1 .0) (a .1 .1 .0))
 admits-unique = fixes (λ a z e p. p)
 
-pub step-number-unique : Fixes (step-number.Learnt tt) (λ z e. z) (λ a. first (stepRows (badCount (a .1 .0)) (a .0) (Limits.outside (a .0) (a .1 .1 .0)) true))
+pub step-number-unique : Fixes (step-number.Learnt tt) (λ z e. z) (λ a. first (stepRows (a .0) (a .1 .0) (Limits.outside (a .1 .0) (a .1 .1 .0)) true))
 step-number-unique = fixes (λ a z e p. p)

@@ -2,7 +2,7 @@
 -- that are its own; `miscounted` is row 1's, made of its count N, or of each of its counts.
 use Prim.Native.Nat.{ℕ, _-_}
 use mathlib.Core.List.{List, [], _∷_}
-use mathlib.Core.Bool.{Bool, not, _||_}
+use mathlib.Core.Bool.{Bool, not, _&&_, _||_}
 use lib.Dec.{ltb}
 use Rattle.rules.specs.Limits.{badCount, badWidth, outside}
 use Rattle.rules.specs.Table.{Row, _when_}
@@ -24,9 +24,14 @@ stepRows miscounted n outlying damaged =
     7 when damaged ∷
     []
 
--- a step whose state has one count, tested at once: `words` are those of its sample and its state in one, by OR
-abbrev pub admits : ℕ → ℕ → ℕ → ℕ → Bool
-admits n need count words = not (badCount need || badWidth n || outside n words || ltb (need - 1) count)
+-- what rows 1 and 7 ask of a count, in one: N is 1 to 1,000, and the running count is at most N-1
+abbrev pub counted : ℕ → ℕ → Bool
+counted need count = not (badCount need || ltb (need - 1) count)
+
+-- a step, tested at once: every count of its state is `counted`, be there one or two, and the words of its sample and its state, in
+-- one by OR, are inside the width
+abbrev pub admits : Bool → ℕ → ℕ → Bool
+admits counts n words = counts && not (badWidth n || outside n words)
 
 -- a run: a trace is too long; the lent slices differ in length; some sample is outside the width
 abbrev pub runRows : Bool → ℕ → ℕ → Bool → Bool → Bool → List Row

@@ -4,7 +4,7 @@ ghost use mathlib.Core.Bool.{true};
 ghost use Prim.Native.Nat.{_-_};
 ghost use Rattle.rules.specs.Limits.{badCount, badWidth, outside, defaultWord};
 ghost use Rattle.rules.specs.Table.{first, orElse};
-ghost use Rattle.rules.specs.Refusals.{makeRows, stepRows, admits};
+ghost use Rattle.rules.specs.Refusals.{makeRows, stepRows, counted, admits};
 
 // The limits: of a count N, of a width n, and of a trace's samples.
 pub struct Limits {}
@@ -75,23 +75,31 @@ pub fn make_refusal(miscounted: bool, n: u32, word: u32) -> u32
     or_else(r, 5, outside(n, word))
 }
 
-// Whether a step is taken, by one test: the count is below N, and the words of its sample and its state, in one, are inside.
-pub fn admits(n: u32, need: u32, count: u32, words: u32) -> bool
-    ensures { λ r. ⌜ r ≡ admits n need count words ⌝ }
+// Rows 1 and 7, of a count: N is one that is taken, and the running count is below it.
+pub fn counted(need: u32, count: u32) -> bool
+    ensures { λ r. ⌜ r ≡ counted need count ⌝ }
+{
+    (count < need) & (need <= Limits::COUNT)
+}
+
+// Whether a step is taken, by one test: every count of its state is counted, and the words of its sample and its state, in one,
+// are inside.
+pub fn admits(counts: bool, n: u32, words: u32) -> bool
+    ensures { λ r. ⌜ r ≡ admits counts n words ⌝ }
 {
     if bad_width(n) {
         return false;
     }
     // In 64 bits, so that a shift by 32 is one like any other.
     let above = words as u64 >> n;
-    (count < need) & (need <= Limits::COUNT) & (above == 0)
+    counts & (above == 0)
 }
 
 // The table of a step that is not taken, its sample's words in one: what no row before refuses is the state's.
-pub fn step_number(n: u32, need: u32, sample: u32) -> u32
-    ensures { λ r. ⌜ r ≡ first (stepRows (badCount need) n (outside n sample) true) ⌝ }
+pub fn step_number(miscounted: bool, n: u32, sample: u32) -> u32
+    ensures { λ r. ⌜ r ≡ first (stepRows miscounted n (outside n sample) true) ⌝ }
 {
-    if bad_count(need) {
+    if miscounted {
         return 1;
     }
     if bad_width(n) {

@@ -118,10 +118,11 @@ pub extern "C" fn scorve_reserve_step(
     let s = reserve_of(*state);
     let vote = s.vote;
     let sample = (a | b) | (c | d);
-    let admitted = rules::admits(vote.n, vote.need, vote.count, sample | vote.word);
+    let counted = rules::counted(vote.need, vote.count);
+    let admitted = rules::admits(counted, vote.n, sample | vote.word);
     let refused = (state[0] > 2) | !admitted;
     if refused {
-        return rules::step_number(vote.n, vote.need, sample);
+        return rules::step_number(rules::bad_count(vote.need), vote.n, sample);
     }
     // Nothing is refused, so the clauses answer as the step does.
     put_step(state, answer, s.clauses(a, b, c, d));

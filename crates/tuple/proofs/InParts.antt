@@ -2,9 +2,9 @@
 use mathlib.Core.Path.{_≡_, sym, ap, subst, _∙_}
 use mathlib.Core.List.{List}
 use mathlib.Core.Bool.{Bool, false}
-use Prim.Native.Nat.{ℕ, _≤_, _<_}
+use Prim.Native.Nat.{ℕ, _≤_}
 use native.Mathlib.Omega.{arith}
-use lib.ListN.{length, getD, replicate}
+use lib.ListN.{length, replicate}
 use Rattle.rules.specs.Limits.{outside}
 use Rattle.rules.proofs.Ranges.{width-range}
 use Rattle.rules.proofs.Signals.{places-length}
@@ -15,57 +15,58 @@ use Rattle.tuple.specs.declared.Voted.{Voted}
 use Rattle.tuple.specs.declared.Voters.{Voters}
 use Rattle.tuple.specs.Parts.{together, stepWith, Decides, Resting}
 use Rattle.tuple.specs.Run.{shownWord, shownMask}
-use Rattle.tuple.specs.Tuple.{width, voteNeed, signalVote, votersOf, decided, clauses}
+use Rattle.tuple.specs.Tuple.{voteNeed, signalVote, voters, votersOf, decided, clauses}
 use Rattle.tuple.proofs.Agreeing.{agreeing}
-use Rattle.tuple.proofs.Clauses.{shown-stays}
+use Rattle.tuple.proofs.Clauses.{shown-stays, same-sizes}
 use Rattle.tuple.proofs.Masks.{mask-shown}
 use Rattle.tuple.proofs.Sound.{Sound, above-zero, sound-next}
 
 -- what is known of such a step: that it is the clauses', what it shows, and what it leaves
-pub record Taken (n : ℕ) (s : Tuple) (a b : ℕ) (v : Voted) (counts : List ℕ) (d : Decided) : Type 0 where
+pub record Taken (n need : ℕ) (s : Tuple) (a b : ℕ) (v : Voted) (counts : List ℕ) (d : Decided) : Type 0 where
   pub whole : stepWith d v counts ≡ clauses s a b
   pub word-shown : d .confirm .output ≡ shownWord (stepWith d v counts)
   pub mask-shown : v .mask ≡ shownMask (stepWith d v counts)
   pub as-long : length counts ≡ 32
   pub sound-left : Sound n (stepWith d v counts .state)
+  pub votes-left : voteNeed (stepWith d v counts .state) ≡ need
   pub all-rest : outside n a ≡ false → a ≡ b → counts ≡ replicate 32 0
 
 -- a state that a step takes may rest: where no voter waits every count is zero
-module _ (n : ℕ) (s : Tuple) (g : Sound n s) where
-  pub wide : width s ≤ 32
-  wide = rw (g .confirm-sound .width) (width-range n (g .confirm-sound .wide) .1)
+module _ (n need : ℕ) (s : Tuple) (g : Sound n s) (votes : voteNeed s ≡ need) where
+  pub wide : n ≤ 32
+  wide = width-range n (g .confirm-sound .wide) .1
 
-  above : (k : ℕ) → width s ≤ k → k < 32 → getD (s .counts) k 0 ≡ 0
-  above = rw (g .confirm-sound .width) (above-zero n s g)
+  pub rests : (waiting : Bool) → (waiting ≡ false → s .counts ≡ replicate 32 0) → Resting n waiting (s .counts)
+  rests waiting rest = record { above = above-zero n s g; rest = rest }
 
-  pub rests : (waiting : Bool) → (waiting ≡ false → s .counts ≡ replicate 32 0) → Resting (width s) waiting (s .counts)
-  rests waiting rest = record { above = above; rest = rest }
+  module _ (long : length (s .counts) ≡ 32) (a b : ℕ) (v : Voted) (counts : List ℕ) (voted : together v counts ≡ voters n need (s .agreed) (s .counts) a b) where
+    of-state : together v counts ≡ votersOf s a b
+    of-state = rw (g .confirm-sound .width, votes) voted
 
-  module _ (long : length (s .counts) ≡ 32) (a b : ℕ) (v : Voted) (counts : List ℕ) (voted : together v counts ≡ votersOf s a b) where
     as-long : length counts ≡ 32
     as-long =
-        let f : ℕ → ℕ = λ i. signalVote (voteNeed s) (s .agreed) (s .counts) a b i .state .count in
-        ap (λ (x : Voters). length (x .counts)) voted ∙ places-length f (s .counts) (width s) (omega (arith, wide)) ∙ long
+        let f : ℕ → ℕ = λ i. signalVote need (s .agreed) (s .counts) a b i .state .count in
+        ap (λ (x : Voters). length (x .counts)) voted ∙ places-length f (s .counts) n (omega (arith, wide)) ∙ long
 
     all-rest : outside n a ≡ false → a ≡ b → counts ≡ replicate 32 0
     all-rest inside same =
-        let fit : outside (width s) a ≡ false = rw (g .confirm-sound .width) inside in
-        let all = agreeing (width s) (voteNeed s) (s .agreed) (s .counts) a wide long above fit in
-        let rest : votersOf s a b .counts ≡ replicate 32 0 = rw (← same) (sym (ap (λ (x : Voters). x .counts) all)) in
+        let all = agreeing n need (s .agreed) (s .counts) a wide long (above-zero n s g) inside in
+        let rest : voters n need (s .agreed) (s .counts) a b .counts ≡ replicate 32 0 = rw (← same) (sym (ap (λ (x : Voters). x .counts) all)) in
         ap (λ (x : Voters). x .counts) voted ∙ rest
 
     module _ (d : Decided) (decides : Decides (s .confirm) v d) where
       whole : stepWith d v counts ≡ clauses s a b
       unfolding clauses
-      whole = sym (decides (s .agreed) (s .counts) counts) ∙ ap (decided s) voted
+      whole = sym (decides (s .agreed) (s .counts) counts) ∙ ap (decided s) of-state
 
-      pub taken : Taken n s a b v counts d
+      pub taken : Taken n need s a b v counts d
       taken =
           record {
             whole = whole;
             word-shown = ap (λ (t : TupleStep). t .state .confirm .output) whole ∙ sym (shown-stays s a b) ∙ sym (ap shownWord whole);
-            mask-shown = ap (λ (x : Voters). x .mask) voted ∙ sym (mask-shown s a b) ∙ sym (ap shownMask whole);
+            mask-shown = ap (λ (x : Voters). x .mask) of-state ∙ sym (mask-shown s a b) ∙ sym (ap shownMask whole);
             as-long = as-long;
             sound-left = subst (λ (t : TupleStep). Sound n (t .state)) (sym whole) (sound-next n s g a b);
+            votes-left = ap (λ (t : TupleStep). voteNeed (t .state)) whole ∙ same-sizes s a b .1 ∙ votes;
             all-rest = all-rest;
           }

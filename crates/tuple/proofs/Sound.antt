@@ -25,6 +25,7 @@ use Rattle.tuple.proofs.Small.{words-small, zeros}
 
 pub record Sound (n : ℕ) (s : Tuple) : Type 0 where
   pub confirm-sound : confirmSteps.Sound n (s .confirm)
+  pub votes-counted : badCount (voteNeed s) ≡ false
   pub places : badPlaces n (voteNeed s) (s .counts) ≡ false
   pub agreed-in : outside n (s .agreed) ≡ false
 
@@ -53,7 +54,7 @@ module _ (n : ℕ) (s : Tuple) (g : Sound n s) where
   pub voter-sound : (i : ℕ) → i < n → voteSteps.Sound 1 (voter s i)
   voter-sound i l =
       let o : ltb (voteNeed s - 1) (getD (s .counts) i 0) ≡ false = rw (lt-ltb i n l) at (old i (omega (arith, within-32))) in
-      record { width = refl; counted = g .confirm-sound .counted; wide = refl; small = ltb-false (voteNeed s - 1) (getD (s .counts) i 0) o; word-in = bit-inside i (s .agreed) }
+      record { width = refl; counted = g .votes-counted; wide = refl; small = ltb-false (voteNeed s - 1) (getD (s .counts) i 0) o; word-in = bit-inside i (s .agreed) }
 
   -- the places after a step: below n a vote has counted, at n and above nothing changed
   place-next : (a b i : ℕ) → i < 32 → (p : Bool) → ltb i n ≡ p → badPlace n (voteNeed s) (getD (votersOf s a b .counts) i 0) i ≡ false
@@ -76,9 +77,10 @@ module _ (n : ℕ) (s : Tuple) (g : Sound n s) where
   pub sound-next : (a b : ℕ) → Sound n (clauses s a b .state)
   sound-next a b =
       either-way s a b (λ (t : TupleStep). Sound n (t .state))
-      (record { confirm-sound = g .confirm-sound; places = places-next a b; agreed-in = word-next a b })
+      (record { confirm-sound = g .confirm-sound; votes-counted = g .votes-counted; places = places-next a b; agreed-in = word-next a b })
       (record {
         confirm-sound = confirmSteps.sound-next n (s .confirm) (votersOf s a b .word) (g .confirm-sound) (word-next a b);
+        votes-counted = rw (confirm-sizes (s .confirm) (votersOf s a b .word) .1) (g .votes-counted);
         places = rw (confirm-sizes (s .confirm) (votersOf s a b .word) .1) (places-next a b);
         agreed-in = word-next a b;
       })
@@ -88,6 +90,7 @@ pub fresh-sound : (n need word : ℕ) → Makes (badCount need) n word → Sound
 fresh-sound n need word m =
     record {
       confirm-sound = confirmSteps.fresh-sound n need word m;
+      votes-counted = m .counted;
       places = none-below (λ i. badPlace n need (getD (replicate 32 0) i 0) i) 32 (λ i l. go i (ltb i n));
       agreed-in = m .word-in;
     }

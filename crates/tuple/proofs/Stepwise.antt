@@ -2,7 +2,8 @@
 use mathlib.Core.Path.{_≡_, refl, sym, ap, _∙_}
 use mathlib.Core.List.{List, map, zip}
 use mathlib.Core.Bool.{false, _||_}
-use Prim.Native.Nat.{ℕ, _-_}
+use Prim.Native.Nat.{ℕ, _-_, _<_}
+use lib.ListN.{length, getD}
 use borrow.Author.Tests.{ltb-false}
 use Rattle.rules.specs.Limits.{badCount, outside}
 use Rattle.rules.specs.Table.{first}
@@ -14,11 +15,11 @@ use Rattle.trace.proofs.Samples.{nowhere}
 use Rattle.trace.proofs.Steps.{agree}
 use Rattle.confirm.specs.Confirm as confirm
 use Rattle.tuple.specs.declared.Tuple.{Tuple}
-use Rattle.tuple.specs.Tuple.{width, badState, fresh, clauses, made, notMade, madeOf, earlyRows, notTaken, stepOf}
-use Rattle.tuple.specs.Run.{leaves, stepped, publicStep, steps, publicSteps, shownWord, shownMask, shownMark, answerOf, Ran, Stepwise}
-use Rattle.tuple.proofs.Accepted.{fine, accept}
+use Rattle.tuple.specs.Tuple.{width, miscounted, badState, fresh, clauses, made, notMade, madeOf, earlyRows, notTaken, stepOf}
+use Rattle.tuple.specs.Run.{leaves, stepped, publicStep, steps, publicSteps, shownWord, shownMask, shownMark, Ran, Stepwise}
+use Rattle.tuple.proofs.Accepted.{fine}
 use Rattle.tuple.proofs.Rows.{eight}
-use Rattle.tuple.proofs.Sound.{Sound, not-bad, never-8, sound-next}
+use Rattle.tuple.proofs.Sound.{Sound, not-bad, never-8, sound-next, fresh-sound}
 
 -- on a sound state, with words inside the width, the public step is the clauses
 pub step-is-clauses : (n : ℕ) (s : Tuple) (a b : ℕ) → Sound n s → outside n a || outside n b ≡ false → stepOf s a b ≡ clauses s a b
@@ -26,19 +27,20 @@ unfolding stepOf
 step-is-clauses n s a b g e =
     let c = g .confirm-sound in
     let early : first (earlyRows s a b) ≡ 0 =
-    step-0 (badCount (s .confirm .need)) (width s) (outside (width s) a || outside (width s) b) (badState s) .1
-    (record { counted = c .counted; wide = rw (c .width) (c .wide); sample-in = rw (c .width) e; sound = not-bad n s g }) in
+    step-0 (miscounted s) (width s) (outside (width s) a || outside (width s) b) (badState s) .1
+    (record { counted = g .votes-counted; wide = rw (c .width) (c .wide); sample-in = rw (c .width) e; sound = not-bad n s g }) in
     sym (works (notTaken s) (clauses s a b) (eight s a b early false (never-8 s a b)) refl)
 
 -- a state that a public step takes is sound
 module _ (s : Tuple) (a b : ℕ) (taken : first (earlyRows s a b) ≡ 0) where
   sound : Sound (width s) s
   sound =
-      let t = step-0 (badCount (s .confirm .need)) (width s) (outside (width s) a || outside (width s) b) (badState s) .0 taken in
+      let t = step-0 (miscounted s) (width s) (outside (width s) a || outside (width s) b) (badState s) .0 taken in
       let c = s .confirm in
       let p = or-each (or-each (λ e. e) (λ e. e)) (or-each (or-each (ltb-false (c .need - 1) (c .count)) (λ e. e)) (λ e. e)) (t .sound) in
       record {
         confirm-sound = record { width = refl; counted = t .counted; wide = t .wide; small = p .1 .0 .0; input-in = p .1 .0 .1; output-in = p .1 .1 };
+        votes-counted = t .counted;
         places = p .0 .0;
         agreed-in = p .0 .1;
       }
@@ -53,25 +55,24 @@ pub made-fresh : (n need word : ℕ) → Makes (badCount need) n word → madeOf
 unfolding madeOf
 made-fresh n need word = makes (badCount need) n word notMade (made n need word)
 
-module _ (n need word : ℕ) (a b words masks marks : List ℕ) (accepted : answerOf n need word a b words masks marks ≡ Done) where
-  -- each public step is the clauses
-  pub same-steps : steps (fresh n need word) (zip a b) ≡ publicSteps (madeOf n need word .state) (zip a b)
-  same-steps =
-      let f = fine n need word a b words masks marks accepted in
-      rw (made-fresh n need word (run-makes _ _ _ _ _ _ f))
-      (agree stepped publicStep leaves (Sound n) (λ (x : ℕ × ℕ). outsidePair n x ≡ false)
-      (λ s x. step-is-clauses n s (x .0) (x .1)) (λ s x g e. sound-next n s g (x .0) (x .1)) (0, 0)
-      (fresh n need word) (zip a b) (accept n need word a b words masks marks accepted .start-sound)
-      (nowhere (outsidePair n) (zip a b) (0, 0) (f .samples-in)))
+-- and it is one that a step takes, so on samples inside the width each public step is the clauses
+pub same-steps :
+    (n need word : ℕ) → Makes (badCount need) n word → (xs : List (ℕ × ℕ)) → ((i : ℕ) → i < length xs → outsidePair n (getD xs i (0, 0)) ≡ false)
+    → steps (fresh n need word) xs ≡ publicSteps (madeOf n need word .state) xs
+same-steps n need word m xs inside =
+    rw (made-fresh n need word m)
+    (agree stepped publicStep leaves (Sound n) (λ (x : ℕ × ℕ). outsidePair n x ≡ false)
+    (λ s x. step-is-clauses n s (x .0) (x .1)) (λ s x g e. sound-next n s g (x .0) (x .1)) (0, 0) (fresh n need word) xs (fresh-sound n need word m) inside)
 
 pub run-is-steps :
     (n need word : ℕ) (a b words masks marks words′ masks′ marks′ : List ℕ)
     → Ran n need word a b words masks marks Done words′ masks′ marks′ → Stepwise n need word a b words′ masks′ marks′
 run-is-steps n need word a b words masks marks words′ masks′ marks′ ran =
     let f = fine n need word a b words masks marks (sym (ran .answered)) in
-    let same = same-steps n need word a b words masks marks (sym (ran .answered)) in
+    let m = run-makes _ _ _ _ _ _ f in
+    let same = same-steps n need word m (zip a b) (nowhere (outsidePair n) (zip a b) (0, 0) (f .samples-in)) in
     record {
-      made = rw (made-fresh n need word (run-makes _ _ _ _ _ _ f));
+      made = rw (made-fresh n need word m);
       words-same = ran .words-after ∙ ap (map shownWord) same;
       masks-same = ran .masks-after ∙ ap (map shownMask) same;
       marks-same = ran .marks-after ∙ ap (map shownMark) same;

@@ -33,6 +33,10 @@ width s = s .confirm .n
 abbrev pub voteNeed : Tuple → ℕ
 voteNeed s = s .confirm .need
 
+-- 1, of a state
+abbrev pub miscounted : Tuple → Bool
+miscounted s = badCount (voteNeed s)
+
 -- fresh: a fresh confirmation, and each voter from its bit of the initial word
 abbrev pub fresh : ℕ → ℕ → ℕ → Tuple
 fresh n need word = record { confirm = confirm.fresh n need word; agreed = word; counts = replicate 32 0 }
@@ -108,7 +112,7 @@ abbrev pub badState : Tuple → Bool
 badState s = badPlaces (width s) (voteNeed s) (s .counts) || outside (width s) (s .agreed) || confirm.badState (s .confirm)
 
 abbrev pub earlyRows : Tuple → ℕ → ℕ → List Row
-earlyRows s a b = stepRows (badCount (s .confirm .need)) (width s) (outside (width s) a || outside (width s) b) (badState s)
+earlyRows s a b = stepRows (miscounted s) (width s) (outside (width s) a || outside (width s) b) (badState s)
 
 -- 8: the word put together for confirmation has a bit at n or above
 abbrev pub rowsOf : Tuple → ℕ → ℕ → List Row

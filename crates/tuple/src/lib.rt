@@ -11,7 +11,7 @@ ghost use lib.Dec.{eqb};
 ghost use Rattle.rules.specs.Limits.{defaultWord};
 ghost use Rattle.rules.specs.Table.{first};
 ghost use Rattle.tuple.specs.Answers.{numberOf, wordOf, maskOf, markOf};
-ghost use Rattle.tuple.specs.Tuple.{width, fresh, votersOf, confirmedAs, decided, madeOf, earlyRows, notTaken, stepOf};
+ghost use Rattle.tuple.specs.Tuple.{width, voteNeed, miscounted, fresh, votersOf, confirmedAs, decided, madeOf, earlyRows, notTaken, stepOf};
 ghost use Rattle.tuple.specs.Parts.{Decides};
 ghost use Rattle.tuple.specs.Run.{Ran};
 
@@ -43,8 +43,8 @@ pub struct TupleStep {
     pub answer: TupleAnswer,
 }
 
-// What the voters of all signals leave at one sample.
-struct Voters {
+// What the voters of all signals leave at one sample: what the definitions of a step speak of, so other rooms can name it.
+pub struct Voters {
     pub word: u32,
     pub mask: u32,
     pub counts: [u32; 32],
@@ -200,20 +200,28 @@ impl Tuple {
         TupleStep { state, answer }
     }
 
+    // The voters' N: the confirmation's.
+    fn vote_need(self) -> u32
+        ensures { λ r. ⌜ r ≡ voteNeed self ⌝ }
+    {
+        self.confirm.need
+    }
+
+    // 1, of the state.
+    fn miscounted(self) -> bool
+        ensures { λ r. ⌜ r ≡ miscounted self ⌝ }
+    {
+        rules::bad_count(self.vote_need())
+    }
+
     fn voters(self, a: u32, b: u32) -> Voters
         requires { ⌜ width self ≤ 32 ⌝ }
         ensures { λ r. ⌜ r ≡ votersOf self a b ⌝ }
     {
+        let need = self.vote_need();
         let confirm = self.confirm;
         let mut counts = self.counts;
-        let voted = signals::step_voters(
-            confirm.n as usize,
-            confirm.need,
-            self.agreed,
-            &mut counts,
-            a,
-            b,
-        );
+        let voted = signals::step_voters(confirm.n as usize, need, self.agreed, &mut counts, a, b);
         Voters {
             word: voted.word,
             mask: voted.mask,
@@ -237,8 +245,9 @@ impl Tuple {
         let confirm = self.confirm;
         let counts = self.counts;
         let stored = self.agreed | (confirm.input | confirm.output);
-        let inside = rules::admits(confirm.n, confirm.need, confirm.count, (a | b) | stored);
-        inside & !signals::bad_places(confirm.n as usize, confirm.need, counts)
+        let placed = !signals::bad_places(confirm.n as usize, self.vote_need(), counts);
+        let counted = rules::counted(confirm.need, confirm.count) & placed;
+        rules::admits(counted, confirm.n, (a | b) | stored)
     }
 
     // One step. A refused one returns the state it got.
@@ -248,7 +257,8 @@ impl Tuple {
         let confirm = self.confirm;
         let refused = !self.admits(a, b);
         if refused {
-            return self.refused(rules::step_number(confirm.n, confirm.need, a | b));
+            let number = rules::step_number(self.miscounted(), confirm.n, a | b);
+            return self.refused(number);
         }
         let v = self.voters(a, b);
         // The table has 8, so it is tested; `eight-never` shows that it is not given.

@@ -1,6 +1,5 @@
 // What each signal has of its own: its bit of a word, its vote, and its place among the counts.
 use crate::Voted;
-use confirm::Confirm;
 use vote::Vote;
 use vote::VoteAnswer;
 use vote::VoteStep;
@@ -130,20 +129,21 @@ pub(crate) fn step_voters(
 
 // A sample's voters. Where both words are equal every voter agrees, and its count is zero: it is set so if it may be another.
 pub(crate) fn step_sample(
-    confirm: Confirm,
+    n: usize,
+    need: u32,
     agreed: u32,
     waiting: bool,
     counts: &mut [u32; 32],
     a: u32,
     b: u32,
 ) -> Voted
-    requires { ⌜ (confirm .n ≤ 32) × (length (now counts) ≡ 32) ⌝ }
-    requires { ⌜ outside (confirm .n) a ≡ false ⌝ }
-    requires { ⌜ Resting (confirm .n) waiting (now counts) ⌝ }
-    ensures { λ r. ⌜ together r (now (counts .exit)) ≡ voters (confirm .n) (confirm .need) agreed (now (counts .entry)) a b ⌝ }
+    requires { ⌜ (n ≤ 32) × (length (now counts) ≡ 32) ⌝ }
+    requires { ⌜ outside n a ≡ false ⌝ }
+    requires { ⌜ Resting n waiting (now counts) ⌝ }
+    ensures { λ r. ⌜ together r (now (counts .exit)) ≡ voters n need agreed (now (counts .entry)) a b ⌝ }
 {
     if a != b {
-        return step_voters(confirm.n as usize, confirm.need, agreed, counts, a, b);
+        return step_voters(n, need, agreed, counts, a, b);
     }
     if waiting {
         *counts = [0u32; 32];

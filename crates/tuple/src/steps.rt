@@ -33,7 +33,7 @@ pub(crate) fn write_steps(
     while i < a.len() {
         let x = a[i];
         let y = b[i];
-        let voted = signals::step_sample(confirm, agreed, waiting, &mut counts, x, y);
+        let voted = signals::step_sample(n as usize, need, agreed, waiting, &mut counts, x, y);
         let taken = crate::decide(confirm, voted);
         let answer = taken.answer;
         // Where both words are equal every count is zero now.

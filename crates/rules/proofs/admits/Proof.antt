@@ -1,11 +1,11 @@
--- `rules::admits` meets its contract: the shift tells whether the words are inside, and two tests of the count the rest.
-use Prim.Native.Nat.{_-_, _^_}
+-- `rules::admits` meets its contract: the shift tells whether the words are inside.
+use Prim.Native.Nat.{_^_}
 use native.Mathlib.Omega.{arith}
 use mathlib.Core.Path.{sym, _∙_}
 use lib.Dec.{ltb}
-use Rattle.rules.specs.Limits.{badCount, outside}
+use Rattle.rules.specs.Limits.{outside}
 use Rattle.rules.proofs.Ranges.{width-range}
-use Rattle.rules.proofs.OneTest.{count-below, no-width, with-width}
+use Rattle.rules.proofs.OneTest.{no-width, with-width}
 use Rattle.rules.proofs.Width.{shifted-out}
 use Rattle.rules.proofs.admits.Statement.{statement}
 use Rattle.rules.proofs.admits.Tie as tie
@@ -13,7 +13,7 @@ use Rattle.rules.proofs.admits.Tie as tie
 returns : tie.Need-returns
 returns c =
     let a = c .before .before .args in
-    rw (← c .before .bad-width .ensures, c .if1 .taken) (no-width (badCount (a .need)) (outside (a .n) (a .words)) (ltb (a .need - 1) (a .count)))
+    rw (← c .before .bad-width .ensures, c .if1 .taken) (no-width (a .counts) (outside (a .n) (a .words)))
 
 shr-above : tie.Need-shr-above
 shr-above c = omega (arith, width-range (c .before .before .args .n) (sym (c .before .bad-width .ensures) ∙ c .if1 .left) .1)
@@ -21,8 +21,7 @@ shr-above c = omega (arith, width-range (c .before .before .args .n) (sym (c .be
 returns-2 : tie.Need-returns-2
 returns-2 c =
     let a = c .before .before .args in
-    rw (← c .before .bad-width .ensures, c .if1 .left, count-below (a .need) (a .count), shifted-out (a .n) (a .words))
-    (with-width (badCount (a .need)) (ltb (a .words) (2 ^ a .n)) (ltb (a .need - 1) (a .count)))
+    rw (← c .before .bad-width .ensures, c .if1 .left, shifted-out (a .n) (a .words)) (with-width (a .counts) (ltb (a .words) (2 ^ a .n)))
 
 pub admits-spec : {M : Type 1} → statement M
 admits-spec = tie.close (tie.spec (λ _ _. tt) returns shr-above returns-2)

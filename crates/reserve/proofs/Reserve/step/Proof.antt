@@ -1,21 +1,34 @@
 -- `Reserve::step` meets its contract: where the one test finds nothing wrong the clauses, else the state as it came.
-use mathlib.Core.Path.{sym, _∙_}
+use mathlib.Core.Path.{_≡_, sym, ap, _∙_}
+use mathlib.Core.Bool.{Bool}
+use lib.Bits.{bitOr}
 use borrow.Author.Tests.{not-false, not-true}
-use Rattle.reserve.proofs.OneTest.{ways}
+use Rattle.rules.specs.Refusals.{admits}
+use Rattle.reserve.proofs.OneTest.{union, admitted, ways}
 use Rattle.reserve.proofs.Reserve.step.Statement.{statement}
 use Rattle.reserve.proofs.Reserve.step.Tie as tie
 
+-- the arguments, as the one test saw them, and what it found
+abbrev asked : tie.After-admits → tie.Start
+asked c = c .before .before .before .before
+
+found : (c : tie.After-admits) → let x = asked c .args in c .admits .result ≡ admitted (x .self) (x .a) (x .b) (x .c) (x .d)
+found c =
+    let x = asked c .args in
+    let v = x .self .vote in
+    c .admits .ensures ∙ ap (λ (k : Bool). admits k (v .n) (bitOr (union (x .a) (x .b) (x .c) (x .d)) (v .word))) (c .before .before .counted .ensures)
+
 returns : tie.Need-returns
 returns c =
-    let tested = c .before .before in
-    let a = tested .before .before .before .args in
-    rw (c .step-number .ensures) (ways (a .self) (a .a) (a .b) (a .c) (a .d) .1 (sym (tested .admits .ensures) ∙ not-true _ (c .before .if1 .taken)))
+    let tested = c .before .before .before in
+    let x = asked tested .args in
+    rw (c .step-number .ensures, c .before .bad-count .ensures) (ways (x .self) (x .a) (x .b) (x .c) (x .d) .1 (sym (found tested) ∙ not-true _ (c .before .before .if1 .taken)))
 
 returns-2 : tie.Need-returns-2
 returns-2 c =
     let tested = c .before .before in
-    let a = tested .before .before .before .args in
-    c .clauses .ensures ∙ ways (a .self) (a .a) (a .b) (a .c) (a .d) .0 (sym (tested .admits .ensures) ∙ not-false _ (c .before .if1 .left))
+    let x = asked tested .args in
+    c .clauses .ensures ∙ ways (x .self) (x .a) (x .b) (x .c) (x .d) .0 (sym (found tested) ∙ not-false _ (c .before .if1 .left))
 
 pub step-spec : {M : Type 1} → statement M
-step-spec = tie.close (tie.spec (λ _ _. tt) (λ _ _. tt) returns (λ _ _. tt) returns-2)
+step-spec = tie.close (tie.spec (λ _ _. tt) (λ _ _. tt) (λ _ _. tt) (λ _ _. tt) returns (λ _ _. tt) returns-2)

@@ -12,12 +12,12 @@ use Rattle.tuple.proofs.signals.step_sample.Tie as tie
 
 -- the words are equal
 all-agree : (c : tie.Else1) → let s = c .before .args in
-    together (record { word = s .a; mask = 0 }) (replicate 32 0) ≡ voters (s .confirm .n) (s .confirm .need) (s .agreed) (s .counts .now) (s .a) (s .b)
+    together (record { word = s .a; mask = 0 }) (replicate 32 0) ≡ voters (s .n) (s .need) (s .agreed) (s .counts .now) (s .a) (s .b)
 all-agree c =
     let p = c .before .pre in
     let s = c .before .args in
     let same : s .a ≡ s .b = c .if1 .left in
-    rw (← same) (agreeing (s .confirm .n) (s .confirm .need) (s .agreed) (s .counts .now) (s .a) (p .0 .0) (p .0 .1) (p .1 .1 .above) (p .1 .0))
+    rw (← same) (agreeing (s .n) (s .need) (s .agreed) (s .counts .now) (s .a) (p .0 .0) (p .0 .1) (p .1 .1 .above) (p .1 .0))
 
 returns-3 : tie.Need-returns-3
 returns-3 c =
@@ -25,4 +25,4 @@ returns-3 c =
     ap (λ (counts : List ℕ). together (record { word = s .args .a; mask = 0 }) counts) (s .pre .1 .1 .rest (c .if2 .left)) ∙ all-agree (c .before)
 
 pub step-sample-spec : {M : Type 1} → statement M
-step-sample-spec = tie.close (tie.spec (λ c. search needs) (λ c κs. search needs) (λ c. search needs) (λ c. all-agree (c .before .before)) returns-3)
+step-sample-spec = tie.close (tie.spec (λ c κs. search needs) (λ c. search needs) (λ c. all-agree (c .before .before)) returns-3)
