@@ -14,13 +14,15 @@ use Rattle.rules.specs.Choose.{if_then_else_}
 use Rattle.trace.specs.Trace.{trace, left}
 use Rattle.trace.proofs.Columns.{zip-length, zip-at, zip-drop}
 use Rattle.vote.specs.Answers.{wordOf, markOf}
-use Rattle.vote.specs.Parts.{takenBy, Shown, Taken}
+use Rattle.vote.specs.Parts.{takenBy, Parts, AsLong, Shown, Taken}
 use Rattle.vote.specs.Run as voteRun
 use Rattle.vote.specs.Vote as vote
 use Rattle.vote.specs.declared.Vote.{Vote}
 use Rattle.vote.specs.declared.VoteAnswer.{VoteAnswer}
 use Rattle.vote.specs.declared.VoteAnswer.the-variants.{Agreed, Held, Alarm, Refused}
+use Rattle.vote.specs.declared.VotePart.{VotePart}
 use Rattle.vote.specs.declared.VoteStep.{VoteStep}
+use Rattle.vote.proofs.Parts.{as-taken}
 use Rattle.reserve.specs.declared.Phase.{Phase}
 use Rattle.reserve.specs.declared.Phase.the-variants.{Primary, TakingOver, Reserve as Reserved}
 use Rattle.reserve.specs.declared.Reserve.{Reserve}
@@ -95,38 +97,44 @@ module _ (g : VoteAnswer → ℕ) where
 
 -- the steps of `vote::columns::write_steps` on units 1 and 2, and those from the hand-over on, are the run
 module _
-    (s : Reserve) (primary : s .phase ≡ Primary) (a b c d : List ℕ) (ab : length a ≡ length b) (ac : length a ≡ length c) (ad : length a ≡ length d)
-    (words₀ marks₀ : List ℕ) (end : ℕ) (v : Vote) (words marks : List ℕ) (p : Taken true (s .vote) (zip a b) words₀ marks₀ end v true words marks) where
+    (s : Reserve) (primary : s .phase ≡ Primary) (a b c d words₀ marks₀ : List ℕ) (long : AsLong a b words₀ marks₀) (ac : length a ≡ length c) (ad : length a ≡ length d)
+    {r : VotePart} {words marks : List ℕ} (wrote : Parts true (s .vote) a b words₀ marks₀ r words marks) where
+  taken : Taken true (s .vote) (zip a b) words₀ marks₀ (r .end) (r .state) true words marks
+  taken = as-taken true (s .vote) a b words₀ marks₀ long r words marks wrote
+
+  as-long : length (zip a b) ≡ length a
+  as-long = zip-length a b (long .second-long)
+
   shown :
       (g : VoteAnswer → ℕ)
-      → map (ofVote g) (voteRun.steps (s .vote) (take end (zip a b))) ++ map (ofVote g) (tookOver v (drop end (zip c d))) ≡ map (ofReserve g) (steps s (samplesOf a b c d))
+      → map (ofVote g) (voteRun.steps (s .vote) (take (r .end) (zip a b))) ++ map (ofVote g) (tookOver (r .state) (drop (r .end) (zip c d)))
+      ≡ map (ofReserve g) (steps s (samplesOf a b c d))
   shown g =
-      let cd : length c ≡ length d = omega arith in
-      let alike : length (zip a b) ≡ length (zip c d) = omega (arith, zip-length a b ab, zip-length c d cd) in
-      let here : takenBy true (s .vote) (zip a b) ≡ end = omega (arith, p .counted) in
+      let alike : length (zip a b) ≡ length (zip c d) = omega (arith, as-long, zip-length c d (omega arith)) in
+      let here : takenBy true (s .vote) (zip a b) ≡ r .end = omega (arith, taken .counted) in
       let start : state-in Primary (s .vote) ≡ s = ap (λ (q : Phase). state-in q (s .vote)) (sym primary) in
-      sym (rw (start, here, p .leaving) at (in-parts g (s .vote) (zip a b) (zip c d) alike))
+      sym (rw (start, here, taken .leaving) at (in-parts g (s .vote) (zip a b) (zip c d) alike))
 
   in-two :
-      (g : VoteAnswer → ℕ) {l₀ l : List ℕ} → Shown (ofVote g) (s .vote) (zip a b) l₀ end l
-      → take end l ++ map (ofVote g) (tookOver v (drop end (zip c d))) ≡ map (ofReserve g) (steps s (samplesOf a b c d))
+      (g : VoteAnswer → ℕ) {l₀ l : List ℕ} → Shown (ofVote g) (s .vote) (zip a b) l₀ (r .end) l
+      → take (r .end) l ++ map (ofVote g) (tookOver (r .state) (drop (r .end) (zip c d))) ≡ map (ofReserve g) (steps s (samplesOf a b c d))
   in-two g q = rw (q .shown) (shown g)
 
   pub in-parts-shown :
-      (take end words ++ map voteRun.shownWord (tookOver v (drop end (zip c d))) ≡ map shownWord (steps s (samplesOf a b c d)))
-      × (take end marks ++ map voteRun.shownMark (tookOver v (drop end (zip c d))) ≡ map shownMark (steps s (samplesOf a b c d)))
-  in-parts-shown = (in-two wordOf (p .in-words), in-two markOf (p .in-marks))
+      (take (r .end) words ++ map voteRun.shownWord (tookOver (r .state) (drop (r .end) (zip c d))) ≡ map shownWord (steps s (samplesOf a b c d)))
+      × (take (r .end) marks ++ map voteRun.shownMark (tookOver (r .state) (drop (r .end) (zip c d))) ≡ map shownMark (steps s (samplesOf a b c d)))
+  in-parts-shown = (in-two wordOf (taken .in-words), in-two markOf (taken .in-marks))
 
   -- without a hand-over before the end, units 1 and 2 are all
-  module _ (all : length a ≤ end) where
-    in-one : (g : VoteAnswer → ℕ) {l₀ l : List ℕ} → Shown (ofVote g) (s .vote) (zip a b) l₀ end l → l ≡ map (ofReserve g) (steps s (samplesOf a b c d))
+  module _ (all : length a ≤ r .end) where
+    in-one : (g : VoteAnswer → ℕ) {l₀ l : List ℕ} → Shown (ofVote g) (s .vote) (zip a b) l₀ (r .end) l → l ≡ map (ofReserve g) (steps s (samplesOf a b c d))
     unfolding tookOver
     in-one g {l₀} {l} q =
-        let past : length (zip c d) ≤ end = omega (arith, zip-length c d (omega arith)) in
-        rw (drop-of-length-le (zip c d) past, take-all end l (omega (arith, q .long, zip-length a b ab)), append-nil) at (in-two g q)
+        let past : length (zip c d) ≤ r .end = omega (arith, zip-length c d (omega arith)) in
+        rw (drop-of-length-le (zip c d) past, take-all (r .end) l (omega (arith, q .long, as-long)), append-nil) at (in-two g q)
 
     pub in-one-shown : (words ≡ map shownWord (steps s (samplesOf a b c d))) × (marks ≡ map shownMark (steps s (samplesOf a b c d)))
-    in-one-shown = (in-one wordOf (p .in-words), in-one markOf (p .in-marks))
+    in-one-shown = (in-one wordOf (taken .in-words), in-one markOf (taken .in-marks))
 
 -- the rest of a slice is put in the place of all that stands from k on
 put-rest : (k : ℕ) (l m : List ℕ) → k ≤ length l → putMid k (length l - k) l m ≡ take k l ++ m

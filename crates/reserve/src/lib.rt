@@ -1,4 +1,6 @@
 // The reserve vote over two pairs of units (document 000, definition 17): a state, one step on it, and a run over four lent columns.
+pub mod pairs;
+
 use trace::RunAnswer;
 use vote::Vote;
 use vote::VoteAnswer;
@@ -8,6 +10,7 @@ ghost use mathlib.Core.List.{_++_, map, zip};
 ghost use Prim.Native.Nat.{_<_};
 ghost use lib.ListN.{length, take, drop};
 ghost use Rattle.rules.specs.Limits.{defaultWord};
+ghost use Rattle.vote.specs.Parts.{AsLong};
 ghost use Rattle.vote.specs.Run as voteRun;
 ghost use Rattle.reserve.specs.Parts.{tookOver};
 ghost use Rattle.reserve.specs.Reserve.{phaseAfter, firstPair, secondPair, clauses, madeOf, stepOf};
@@ -122,9 +125,10 @@ impl Reserve {
     {
         let vote = self.vote;
         let sample = (a | b) | (c | d);
-        let refused = !rules::admits(vote.n, vote.need, vote.count, sample | vote.word);
+        let counted = rules::counted(vote.need, vote.count);
+        let refused = !rules::admits(counted, vote.n, sample | vote.word);
         if refused {
-            let number = rules::step_number(vote.n, vote.need, sample);
+            let number = rules::step_number(rules::bad_count(vote.need), vote.n, sample);
             return ReserveStep {
                 state: self,
                 answer: VoteAnswer::Refused(number),
@@ -138,9 +142,7 @@ impl Reserve {
 // A step for each sample from a hand-over on, at sample `over`: what each shows is written. The first is with a reset.
 fn take_over(alarmed: Vote, over: usize, c: &[u32], d: &[u32], words: &mut [u32], marks: &mut [u8])
     requires { ⌜ over < length (now c) ⌝ }
-    requires { ⌜ length (now c) ≡ length (now d) ⌝ }
-    requires { ⌜ length (now c) ≡ length (now words) ⌝ }
-    requires { ⌜ length (now c) ≡ length (now marks) ⌝ }
+    requires { ⌜ AsLong (now c) (now d) (now words) (now marks) ⌝ }
     ensures { λ _. ⌜ now (words .exit) ≡
         take over (now (words .entry)) ++ map voteRun.shownWord (tookOver alarmed (drop over (zip (now (c .entry)) (now (d .entry))))) ⌝ }
     ensures { λ _. ⌜ now (marks .exit) ≡
@@ -172,9 +174,8 @@ fn write_steps(
     words: &mut [u32],
     marks: &mut [u8],
 )
-    requires { ⌜ (length (now a) ≡ length (now b)) × (length (now a) ≡ length (now c)) × (length (now a) ≡ length (now d)) ⌝ }
-    requires { ⌜ length (now a) ≡ length (now words) ⌝ }
-    requires { ⌜ length (now a) ≡ length (now marks) ⌝ }
+    requires { ⌜ AsLong (now a) (now b) (now words) (now marks) ⌝ }
+    requires { ⌜ (length (now a) ≡ length (now c)) × (length (now a) ≡ length (now d)) ⌝ }
     requires { ⌜ start .phase ≡ Phase.Primary ⌝ }
     ensures { λ _. ⌜ now (words .exit) ≡
         map shownWord (steps start (samplesOf (now (a .entry)) (now (b .entry)) (now (c .entry)) (now (d .entry)))) ⌝ }

@@ -1,12 +1,13 @@
 // Steps of a vote over two lent columns: the loops of its run, and of the reserve vote's.
 use crate::Vote;
 use crate::VotePart;
+use crate::VoteRow;
 ghost use mathlib.Core.Path.{_≡_};
 ghost use mathlib.Core.List.{zip};
 ghost use mathlib.Core.Bool.{true};
 ghost use Prim.Native.Nat.{_<_, _≤_};
 ghost use lib.ListN.{length, getD};
-ghost use Rattle.vote.specs.Parts.{Taken, Parts, GoesOn};
+ghost use Rattle.vote.specs.Parts.{AsLong, Taken, Parts, GoesOn};
 
 // The samples in a row that disagree, from the first of them on: what each shows is written. With `once` an alarm ends it.
 fn write_apart(
@@ -17,10 +18,8 @@ fn write_apart(
     b: &[u32],
     words: &mut [u32],
     marks: &mut [u8],
-) -> VotePart
-    requires { ⌜ length (now a) ≡ length (now b) ⌝ }
-    requires { ⌜ length (now a) ≡ length (now words) ⌝ }
-    requires { ⌜ length (now a) ≡ length (now marks) ⌝ }
+) -> VoteRow
+    requires { ⌜ AsLong (now a) (now b) (now words) (now marks) ⌝ }
     requires { ⌜ from < length (now a) ⌝ }
     requires { ⌜ (getD (now a) from 0 ≡ getD (now b) from 0 → ⊥) ⌝ }
     ensures { λ r. ⌜ (from < r .end) × (r .end ≤ length (now (a .entry))) ⌝ }
@@ -31,7 +30,7 @@ fn write_apart(
     let mut i = from;
     while i < a.len() {
         if a[i] == b[i] {
-            return VotePart {
+            return VoteRow {
                 state,
                 end: i,
                 over: false,
@@ -46,14 +45,14 @@ fn write_apart(
         i += 1;
         let over = once & (mark == 2);
         if over {
-            return VotePart {
+            return VoteRow {
                 state,
                 end: i,
                 over,
             };
         }
     }
-    VotePart {
+    VoteRow {
         state,
         end: i,
         over: false,
@@ -70,10 +69,7 @@ pub(crate) fn take_steps(
     words: &mut [u32],
     marks: &mut [u8],
 ) -> VotePart
-    requires { ⌜ length (now a) ≡ length (now b) ⌝ }
-    requires { ⌜ length (now a) ≡ length (now words) ⌝ }
-    requires { ⌜ length (now a) ≡ length (now marks) ⌝ }
-    ensures { λ r. ⌜ r .over ≡ true ⌝ }
+    requires { ⌜ AsLong (now a) (now b) (now words) (now marks) ⌝ }
     ensures { λ r. ⌜ Taken once start (zip (now (a .entry)) (now (b .entry))) (now (words .entry)) (now (marks .entry))
         (r .end) (r .state) true (now (words .exit)) (now (marks .exit)) ⌝ }
 {
@@ -88,18 +84,14 @@ pub(crate) fn take_steps(
             i += 1;
         } else {
             let row = write_apart(state, once, i, a, b, words, marks);
-            if row.over {
-                return row;
-            }
             state = row.state;
             i = row.end;
+            if row.over {
+                return VotePart { state, end: i };
+            }
         }
     }
-    VotePart {
-        state,
-        end: i,
-        over: true,
-    }
+    VotePart { state, end: i }
 }
 
 // The same for rooms above, whatever is lent: where a length differs no step is taken.
@@ -121,7 +113,6 @@ pub fn write_steps(
         return VotePart {
             state: start,
             end: 0,
-            over: true,
         };
     }
     take_steps(start, once, a, b, words, marks)

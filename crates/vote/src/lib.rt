@@ -37,8 +37,14 @@ pub struct VoteStep {
     pub answer: VoteAnswer,
 }
 
-// Steps over a part of two columns: the state that they leave, the number of the sample after them, and whether no more are taken.
+// Steps over a part of two columns: the state that they leave, and the number of the sample after them.
 pub struct VotePart {
+    pub state: Vote,
+    pub end: usize,
+}
+
+// The same of a row of samples that disagree, and whether an alarm has ended the steps with it.
+struct VoteRow {
     pub state: Vote,
     pub end: usize,
     pub over: bool,
@@ -169,9 +175,10 @@ impl Vote {
         ensures { λ r. ⌜ r ≡ stepOf self a b reset ⌝ }
     {
         let sample = a | b;
-        let refused = !rules::admits(self.n, self.need, self.count, sample | self.word);
+        let counted = rules::counted(self.need, self.count);
+        let refused = !rules::admits(counted, self.n, sample | self.word);
         if refused {
-            let number = rules::step_number(self.n, self.need, sample);
+            let number = rules::step_number(rules::bad_count(self.need), self.n, sample);
             return VoteStep {
                 state: self,
                 answer: VoteAnswer::Refused(number),

@@ -45,7 +45,7 @@ write-steps-requires c κs =
     let columns = or-each (or-each (same _ _) (same _ _)) (same _ _) in
     let slices = or-each (same _ _) (same _ _) in
     let p = or-each columns slices (fine (c .before .before .before .before) .alike) in
-    ((p .0 .0 .0, p .0 .0 .1, p .0 .1), (p .1 .0, (p .1 .1, ap (λ (s : Reserve). s .phase) (start (c .before .before .before)))))
+    (record { second-long = p .0 .0 .0; words-long = p .1 .0; marks-long = p .1 .1 }, ((p .0 .0 .1, p .0 .1), ap (λ (s : Reserve). s .phase) (start (c .before .before .before))))
 
 returns-2 : tie.Need-returns-2
 returns-2 c =

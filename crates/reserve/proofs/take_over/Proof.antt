@@ -1,38 +1,39 @@
 -- `reserve::take_over` meets its contract: the step with a reset is stored at its sample, and the steps after it fill the rest.
-use mathlib.Core.Path.{sym, _∙_}
+use mathlib.Core.Path.{_∙_}
 use native.Mathlib.Omega.{arith}
 use Prim.Native.Nat.{_+_}
 use mathlib.Core.Bool.{false}
-use lib.ListN.{set, length-set}
-use Rattle.trace.proofs.Columns.{rests-alike}
+use lib.ListN.{length-set}
 use Rattle.vote.specs.Run.{shownWord, shownMark}
-use Rattle.vote.proofs.Parts.{as-taken, whole-run}
+use Rattle.vote.proofs.Parts.{stored-long, rests-long, as-taken, whole-run}
 use Rattle.reserve.proofs.Parts.{handed-over}
 use borrow.Author.Needs.{needs}
 use Rattle.reserve.proofs.take_over.Statement.{statement}
 use Rattle.reserve.proofs.take_over.Tie as tie
 
+-- what is looked at from the end: the steps after the one with a reset, that one's mark, word and step, and the start
+abbrev later : tie.After-write-steps → tie.After-mark
+later c = c .before .before .before .before .before
+
+abbrev start-of : tie.After-mark → tie.Start
+start-of c = c .before .before .before .before .before .before .before .before .before
+
 returns : tie.Need-returns
 returns c =
     let wrote = c .before .before .before .before in
-    let marked = wrote .before .before .before .before .before in
+    let marked = later wrote in
     let worded = marked .before in
     let taken = worded .before in
-    let start = c .before .before .before .before .before .before .before .before .before .before .before .before .before .before .before .before .before .before in
-    let x = start .args in
-    let pre = start .pre in
-    let rest = x .over + 1 in
-    let words = set (x .words .now) (x .over) (worded .word .result) in
-    let marks = set (x .marks .now) (x .over) (marked .mark .result) in
-    let words-long = pre .1 .1 .0 ∙ sym (length-set (x .words .now) (x .over) (worded .word .result)) in
-    let marks-long = pre .1 .1 .1 ∙ sym (length-set (x .marks .now) (x .over) (marked .mark .result)) in
-    let went =
-    as-taken false _ _ _ _ _ (rests-alike rest (x .c .now) (x .d .now) (pre .1 .0)) (rests-alike rest (x .c .now) words words-long) (rests-alike rest (x .c .now) marks marks-long)
-    _ _ _ (wrote .write-steps .ensures) in
+    let x = start-of marked .args in
+    let pre = start-of marked .pre in
+    let inside = pre .0 in
+    let long = pre .1 in
+    let stored = stored-long (x .over) (worded .word .result) (marked .mark .result) long in
+    let went = as-taken false _ _ _ _ _ (rests-long (x .over + 1) _ _ _ _ stored) _ _ _ (wrote .write-steps .ensures) in
     let whole = whole-run _ _ _ _ _ _ _ _ went in (
-      handed-over shownWord (x .alarmed) (x .over) (x .c .now) (x .d .now) (x .words .now) (pre .0) (pre .1 .0) (pre .1 .1 .0)
+      handed-over shownWord (x .alarmed) (x .over) (x .c .now) (x .d .now) (x .words .now) inside (long .second-long) (long .words-long)
           (taken .clauses .result) (worded .word .result) _ (taken .clauses .ensures) (worded .word .ensures) (whole .0),
-      handed-over shownMark (x .alarmed) (x .over) (x .c .now) (x .d .now) (x .marks .now) (pre .0) (pre .1 .0) (pre .1 .1 .1)
+      handed-over shownMark (x .alarmed) (x .over) (x .c .now) (x .d .now) (x .marks .now) inside (long .second-long) (long .marks-long)
           (taken .clauses .result) (marked .mark .result) _ (taken .clauses .ensures) (marked .mark .ensures) (whole .1),
     )
 

@@ -2,13 +2,11 @@
 use mathlib.Core.Path.{_≡_, sym, _∙_}
 use mathlib.Core.Bool.{false}
 use borrow.Author.Needs.{needs}
-use Rattle.rules.proofs.Ranges.{same}
-use Rattle.rules.proofs.Tables.{or-each}
 use Rattle.trace.specs.Answers.{apartPair}
 use Rattle.trace.specs.Samples.{outsidePair}
 use Rattle.trace.proofs.Runs.{answer-done}
 use Rattle.vote.specs.Run.{answerOf, unequal}
-use Rattle.vote.proofs.Parts.{whole-run}
+use Rattle.vote.proofs.Parts.{all-long, whole-run}
 use Rattle.vote.proofs.run.Statement.{statement}
 use Rattle.vote.proofs.run.Tie as tie
 
@@ -27,14 +25,14 @@ alike : (c : tie.After-enum-told) → let a = c .before .before .before .before 
 alike c = answer-done _ _ _ _ _ outsidePair _ (sym (answered (c .before .before)) ∙ c .enum-told .given .1) .alike
 
 take-steps-requires : tie.Need-take-steps-requires
-take-steps-requires c κs = or-each (same _ _) (or-each (same _ _) (same _ _)) (alike (c .before .before .before))
+take-steps-requires c κs = all-long _ _ _ _ (alike (c .before .before .before))
 
 returns-2 : tie.Need-returns-2
 returns-2 c =
     let wrote = c .before .before .before .before in
     let f = wrote .before .before .before in
     let ran = f .before .enum-told .given .1 in
-    let whole = whole-run _ _ _ _ _ _ _ _ (wrote .take-steps .ensures .1) in
+    let whole = whole-run _ _ _ _ _ _ _ _ (wrote .take-steps .ensures) in
     record {
       answered = sym ran ∙ answered (f .before .before .before);
       words-after = rw (← f .fresh .ensures) (whole .0);

@@ -1,10 +1,8 @@
 -- `vote::columns::write_steps` meets its contract: where a length differs nothing is taken.
 use mathlib.Core.Path.{refl}
 use borrow.Author.Needs.{needs}
-use Rattle.rules.proofs.Ranges.{same}
-use Rattle.rules.proofs.Tables.{or-each}
 use Rattle.trace.specs.Trace.{trace}
-use Rattle.vote.proofs.Parts.{promised}
+use Rattle.vote.proofs.Parts.{all-long, promised}
 use Rattle.vote.proofs.columns.write_steps.Statement.{statement}
 use Rattle.vote.proofs.columns.write_steps.Tie as tie
 
@@ -13,12 +11,12 @@ unfolding trace
 returns c = record { answered = rw (c .if1 .taken); words-after = refl; marks-after = refl }
 
 take-steps-requires : tie.Need-take-steps-requires
-take-steps-requires c κs = or-each (same _ _) (or-each (same _ _) (same _ _)) (c .before .before .if1 .left)
+take-steps-requires c κs = all-long _ _ _ _ (c .before .before .if1 .left)
 
 returns-2 : tie.Need-returns-2
 returns-2 c =
     let wrote = c .before .before .before .before in
-    promised _ _ _ _ _ _ (wrote .before .before .before .if1 .left) (wrote .take-steps .result) _ _ (wrote .take-steps .ensures .0) (wrote .take-steps .ensures .1)
+    promised _ _ _ _ _ _ (wrote .before .before .before .if1 .left) (wrote .take-steps .result) _ _ (wrote .take-steps .ensures)
 
 pub write-steps-spec : {M : Type 1} → statement M
 write-steps-spec = tie.close (tie.spec returns take-steps-requires (λ c. search needs) (λ c. search needs) returns-2)
