@@ -1,3 +1,4 @@
+pub mod Alarms
 pub mod Clauses
 pub mod Exactly
 pub mod HandOver

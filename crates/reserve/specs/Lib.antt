@@ -1,3 +1,4 @@
+pub mod Alarms
 pub mod HandOver
 pub mod Pairs
 pub mod Parts
