@@ -10,7 +10,7 @@ fn size() {
     let delay = input::number();
     let sized = Sizing::of(n, least, greatest, delay);
     output::first(sized.refusal);
-    output::next(sized.count);
+    output::next(sized.need);
     output::next_wide(sized.age);
     output::next_wide(sized.quiet);
     output::end_line();

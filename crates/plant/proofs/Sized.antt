@@ -24,7 +24,7 @@ module _ (n tm tM d : ℕ) (taken : sizingOf n tm tM d .refusal ≡ 0) where
   its-numbers = rw none-refused
 
 -- what the definition gives is what the watch needs
-module _ (w : Watch) (z : Sizing) (given : z ≡ sizingOf (w .n) (w .tm) (w .tM) (w .d)) (taken : z .refusal ≡ 0) (its-count : z .count ≡ w .need) where
+module _ (w : Watch) (z : Sizing) (given : z ≡ sizingOf (w .n) (w .tm) (w .tM) (w .d)) (taken : z .refusal ≡ 0) (its-count : z .need ≡ w .need) where
   not-refused : sizingOf (w .n) (w .tm) (w .tM) (w .d) .refusal ≡ 0
   not-refused = rw (← given) taken
 
@@ -32,7 +32,7 @@ module _ (w : Watch) (z : Sizing) (given : z ≡ sizingOf (w .n) (w .tm) (w .tM)
   is = given ∙ its-numbers (w .n) (w .tm) (w .tM) (w .d) not-refused
 
   need-is : w .need ≡ countOf (w .tm) (w .d)
-  need-is = sym its-count ∙ ap (λ (z : Sizing). z .count) is
+  need-is = sym its-count ∙ ap (λ (z : Sizing). z .need) is
 
   as-needed : Bounds w z
   as-needed = record {

@@ -23,7 +23,7 @@ pub record SizedBy (w : Watch) (n tm tM d : ℕ) (z : Sizing) : Type 0 where
   pub same-greatest : tM ≡ w .tM
   pub same-delay : d ≡ w .d
   pub not-refused : z .refusal ≡ 0
-  pub its-count : z .count ≡ w .need
+  pub its-count : z .need ≡ w .need
 
 -- what its numbers are: N·Tm > D, and the bounds of demand 3 are the ones returned
 pub record Bounds (w : Watch) (z : Sizing) : Type 0 where

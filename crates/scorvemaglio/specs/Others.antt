@@ -20,7 +20,7 @@ use Rattle.scorvemaglio.specs.Lent.{Makes, Tells, unlessRefused}
 
 -- the sizing writes the count, the age bound and the quiet gap
 abbrev pub MakesSizing : Sizing → List ℕ → ℕ → List ℕ → Type 0
-MakesSizing x = Makes (x .refusal) (x .count ∷ x .age ∷ x .quiet ∷ [])
+MakesSizing x = Makes (x .refusal) (x .need ∷ x .age ∷ x .quiet ∷ [])
 
 -- the readings as C has them: four floats
 abbrev pub readingsOf : List Float → Readings

@@ -24,7 +24,7 @@ pub extern "C" fn scorve_sizing_of(
     if sized.refusal != 0 {
         return sized.refusal;
     }
-    *sizing = [sized.count as u64, sized.age, sized.quiet];
+    *sizing = [sized.need as u64, sized.age, sized.quiet];
     0
 }
 

@@ -36,10 +36,10 @@ sizeRows n tm tM d =
 
 -- refused: zeros
 abbrev pub notSized : ℕ → Sizing
-notSized number = record { refusal = number; count = 0; age = 0; quiet = 0 }
+notSized number = record { refusal = number; need = 0; age = 0; quiet = 0 }
 
 abbrev pub sized : ℕ → ℕ → ℕ → ℕ → Sizing
-sized n need tM d = record { refusal = 0; count = need; age = ageBound n need tM d; quiet = quietGap n need tM d }
+sized n need tM d = record { refusal = 0; need = need; age = ageBound n need tM d; quiet = quietGap n need tM d }
 
 unfoldable pub sizingOf : ℕ → ℕ → ℕ → ℕ → Sizing
 sizingOf n tm tM d = answer (first (sizeRows n tm tM d)) notSized (sized n (countOf tm d) tM d)

@@ -6,7 +6,7 @@ ghost use Rattle.sizing.specs.Sizing.{badGaps, countOf, sizeRows, sizing
 // The count N, the age bound and the quiet gap; refusal 0 is none. Times are whole microseconds.
 pub struct Sizing {
     pub refusal: u32,
-    pub count: u32,
+    pub need: u32,
     pub age: u64,
     pub quiet: u64,
 }
@@ -49,20 +49,20 @@ impl Sizing {
         if refusal != 0 {
             return Sizing {
                 refusal,
-                count: 0,
+                need: 0,
                 age: 0,
                 quiet: 0,
             };
         }
-        let count = count_of(least_gap, delay);
-        let samples = n as u64 * count;
+        let need = count_of(least_gap, delay);
+        let samples = n as u64 * need;
         let gap = greatest_gap as u64;
         let age = samples * gap + delay as u64;
         let quiet = (samples + 1) * gap + delay as u64;
-        let count = count as u32;
+        let need = need as u32;
         Sizing {
             refusal,
-            count,
+            need,
             age,
             quiet,
         }

@@ -59,8 +59,8 @@ pub data Row : Type 0 where
 
 -- a run is lent slices of the right lengths; what they hold before does not matter
 abbrev pub Holds : Row → Type 0
-Holds (sizing-n n Tm tm TM tM D d gives-N need age: old gap: quiet) = sizingOf n tm tM d ≡ record { refusal = 0; count = need; age = old; quiet = quiet }
-Holds (count-n n Tm tm TM tM D d is need) = sizingOf n tm tM d .count ≡ need
+Holds (sizing-n n Tm tm TM tM D d gives-N need age: old gap: quiet) = sizingOf n tm tM d ≡ record { refusal = 0; need = need; age = old; quiet = quiet }
+Holds (count-n n Tm tm TM tM D d is need) = sizingOf n tm tM d .need ≡ need
 Holds (sizing-n n Tm tm TM tM D d refused number) = sizingOf n tm tM d ≡ notSized number
 Holds (recording s lists lines) = textOf s ≡ asText lines
 Holds (vote-n n N need from word lists lines) =
