@@ -9,26 +9,25 @@ pub zip-length : {X Y : Type 0} (us : List X) (vs : List Y) → length us ≡ le
 unfolding zip zipWith
 zip-length [] [] e = refl
 zip-length [] (v ∷ vs) e = refl
-zip-length (u ∷ us) [] e = absurd (let z : suc (length us) ≡ 0 = e in omega arith)
-zip-length (u ∷ us) (v ∷ vs) e = ap suc (zip-length us vs (let z : suc (length us) ≡ suc (length vs) = e in omega arith))
+zip-length (u ∷ us) [] e = absurd (omega arith)
+zip-length (u ∷ us) (v ∷ vs) e = ap suc (zip-length us vs (omega arith))
 
 pub zip-at :
     {X Y : Type 0} (us : List X) (vs : List Y) (i : ℕ) (d : X) (e : Y) → i < length us → length us ≡ length vs
     → getD (zip us vs) i (d, e) ≡ (getD us i d, getD vs i e)
 unfolding zip zipWith
-zip-at [] vs i d e h q = absurd (let z : i < 0 = h in omega arith)
-zip-at (u ∷ us) [] i d e h q = absurd (let z : suc (length us) ≡ 0 = q in omega arith)
+zip-at [] vs i d e h q = absurd (omega arith)
+zip-at (u ∷ us) [] i d e h q = absurd (omega arith)
 zip-at (u ∷ us) (v ∷ vs) zero d e h q = refl
-zip-at (u ∷ us) (v ∷ vs) (suc i) d e h q =
-    zip-at us vs i d e (let z : suc i < suc (length us) = h in omega arith) (let z : suc (length us) ≡ suc (length vs) = q in omega arith)
+zip-at (u ∷ us) (v ∷ vs) (suc i) d e h q = zip-at us vs i d e (omega arith) (omega arith)
 
 -- what is left of both, past the first n
 pub zip-drop : {X Y : Type 0} (n : ℕ) (us : List X) (vs : List Y) → length us ≡ length vs → drop n (zip us vs) ≡ zip (drop n us) (drop n vs)
 unfolding zip zipWith
 zip-drop zero us vs e = refl
 zip-drop (suc n) [] vs e = refl
-zip-drop (suc n) (u ∷ us) [] e = absurd (let z : suc (length us) ≡ 0 = e in omega arith)
-zip-drop (suc n) (u ∷ us) (v ∷ vs) e = zip-drop n us vs (let z : suc (length us) ≡ suc (length vs) = e in omega arith)
+zip-drop (suc n) (u ∷ us) [] e = absurd (omega arith)
+zip-drop (suc n) (u ∷ us) (v ∷ vs) e = zip-drop n us vs (omega arith)
 
 module _ (a b c d : List ℕ) (ab : length a ≡ length b) (ac : length a ≡ length c) (ad : length a ≡ length d) where
   pairs-alike : length (zip a b) ≡ length (zip c d)

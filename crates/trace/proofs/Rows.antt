@@ -100,7 +100,7 @@ module _ (need : ℕ) (some : 1 ≤ need) where
             (d : ℕ) (s : S) (xs : List X) (i : ℕ) → Counts d (needOf s) (countOf s) → i < length xs
             → (getD (map shown (trace step leaves s xs)) i 255 ≡ mark) ↔ Full d (tests step leaves test s xs) i
         unfolding trace tests
-        row-shown d s [] i k h = absurd (let z : i < 0 = h in omega arith)
+        row-shown d s [] i k h = absurd (omega arith)
         row-shown d s (x ∷ xs) zero k h =
             let now = marked-full d (test s x) k in
             let row = row-first d (test s x) (tests step leaves test (leaves (step s x)) xs) in
@@ -109,4 +109,4 @@ module _ (need : ℕ) (some : 1 ≤ need) where
             let next : Counts (on d (test s x)) (needOf (leaves (step s x))) (countOf (leaves (step s x))) =
             rw (counting s x .stays, counting s x .counted) (counts-on d (test s x) k) in
             row-later d (test s x) (tests step leaves test (leaves (step s x)) xs) i
-            (row-shown (on d (test s x)) (leaves (step s x)) xs i next (let z : suc i < suc (length xs) = h in omega arith))
+            (row-shown (on d (test s x)) (leaves (step s x)) xs i next (omega arith))

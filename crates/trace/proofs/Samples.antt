@@ -56,15 +56,15 @@ module _ {X : Type 0} (test : X → Bool) where
 
   none-before : (xs : List X) (d : X) (k : ℕ) → k < firstWhere test xs → test (getD xs k d) ≡ false
   unfolding firstWhere
-  none-before [] d k h = absurd (let z : k < 0 = h in omega arith)
+  none-before [] d k h = absurd (omega arith)
   none-before (x ∷ xs) d k h = go (test x) refl k h (none-before xs d) where
     go :
         (b : Bool) → test x ≡ b → (k : ℕ) → k < (if b then 0 else suc (firstWhere test xs))
         → ((k : ℕ) → k < firstWhere test xs → test (getD xs k d) ≡ false)
         → test (getD (x ∷ xs) k d) ≡ false
-    go true q k h later = absurd (let z : k < 0 = h in omega arith)
+    go true q k h later = absurd (omega arith)
     go false q zero h later = q
-    go false q (suc k) h later = later k (let z : suc k < suc (firstWhere test xs) = h in omega arith)
+    go false q (suc k) h later = later k (omega arith)
 
   pub smallest : (xs : List X) → somewhere test xs ≡ true → Smallest test xs (firstWhere test xs)
   smallest xs e = record { there = ltb-true _ _ e; marked = λ d. marked xs d e; none-before = none-before xs }
@@ -97,9 +97,9 @@ pub either :
     → firstWhere (λ (z : X × Y). p (z .0) || q (z .1)) (zip xs ys) ≡ min (firstWhere p xs) (firstWhere q ys)
 unfolding firstWhere zip zipWith
 either p q [] [] e = refl
-either p q [] (y ∷ ys) e = absurd (let z : 0 ≡ suc (length ys) = e in omega arith)
-either p q (x ∷ xs) [] e = absurd (let z : suc (length xs) ≡ 0 = e in omega arith)
-either p q (x ∷ xs) (y ∷ ys) e = go _ _ (p x) (q y) (either p q xs ys (let z : suc (length xs) ≡ suc (length ys) = e in omega arith)) where
+either p q [] (y ∷ ys) e = absurd (omega arith)
+either p q (x ∷ xs) [] e = absurd (omega arith)
+either p q (x ∷ xs) (y ∷ ys) e = go _ _ (p x) (q y) (either p q xs ys (omega arith)) where
   go :
       (k l : ℕ) {m : ℕ} (a b : Bool) → m ≡ min k l
       → (if a || b then 0 else suc m) ≡ min (if a then 0 else suc k) (if b then 0 else suc l)

@@ -1,12 +1,63 @@
--- Two runs are equal where their steps agree on good states and alike samples and a good state stays good. So a run that tests
--- nothing at each sample equals the public steps that test everything, and what no step looks at changes no run. Then a run's columns,
--- its length, its parts, a part of its state that steps by itself, and a state that no sample moves.
-use mathlib.Core.Path.{_≡_, refl, ap}
-use mathlib.Core.List.{List, [], _∷_, _++_, map}
-use Prim.Native.Nat.{ℕ, zero, suc, _<_}
+-- A run sample by sample: what a column holds at each place, properties of its states that may speak of the sample's
+-- number, and two runs side by side. So two runs are equal where their steps agree on good states and alike samples and a
+-- good state stays good: a run that tests nothing at each sample equals the public steps that test everything, and what no
+-- step looks at changes no run. Then its parts, a part of its state that steps by itself, a state that no sample moves.
+use mathlib.Core.Path.{_≡_, refl, sym, ap, ap₂, _∙_}
+use mathlib.Core.List.{List, [], _∷_, _++_, map, map-id}
+use Prim.Native.Nat.{ℕ, zero, suc, _≤_, _<_}
 use native.Mathlib.Omega.{arith}
-use lib.ListN.{length, getD, replicate}
+use lib.ListN.{length, getD, take, replicate, length-map}
 use Rattle.trace.specs.Trace.{trace, left}
+
+-- a run has a step for each sample
+pub trace-length : {S X T : Type 0} (step : S → X → T) (next : T → S) (s : S) (xs : List X) → length (trace step next s xs) ≡ length xs
+unfolding trace
+trace-length step next s [] = refl
+trace-length step next s (x ∷ xs) = ap suc (trace-length step next (next (step s x)) xs)
+
+module _ {S X T : Type 0} (step : S → X → T) (next : T → S) (d : X) where
+  -- place k of a column is what the step on sample k shows, from the state that the samples before it left
+  pub shown-at :
+      {A : Type 0} (shown : T → A) (e : A) (s : S) (xs : List X) (k : ℕ) → k < length xs
+      → getD (map shown (trace step next s xs)) k e ≡ shown (step (left step next s (take k xs)) (getD xs k d))
+  unfolding trace left
+  shown-at shown e s [] k l = absurd (omega arith)
+  shown-at shown e s (x ∷ xs) zero l = refl
+  shown-at shown e s (x ∷ xs) (suc k) l = shown-at shown e (next (step s x)) xs k (omega arith)
+
+  -- what each step keeps is so of the state before every sample, and after the last
+  pub kept :
+      (P : ℕ → S → Type 0) (xs : List X) → ((k : ℕ) (s : S) → k < length xs → P k s → P (suc k) (next (step s (getD xs k d))))
+      → (s : S) → P 0 s → (k : ℕ) → k ≤ length xs → P k (left step next s (take k xs))
+  unfolding left
+  kept P xs h s p zero l = p
+  kept P [] h s p (suc k) l = absurd (omega arith)
+  kept P (x ∷ xs) h s p (suc k) l = kept (λ j. P (suc j)) xs (λ j t m. h (suc j) t (omega arith)) (next (step s x)) (h 0 s (omega arith) p) k (omega arith)
+
+  -- so what each step shows then, place k of the column holds
+  pub at-each :
+      {A : Type 0} (shown : T → A) (e : A) (P : ℕ → S → Type 0) (Q : ℕ → A → Type 0) (xs : List X)
+      → ((k : ℕ) (s : S) → k < length xs → P k s → let t = step s (getD xs k d) in P (suc k) (next t) × Q k (shown t))
+      → (s : S) → P 0 s → (k : ℕ) → k < length xs → Q k (getD (map shown (trace step next s xs)) k e)
+  at-each shown e P Q xs h s p k l = rw (shown-at shown e s xs k l) (h k _ l (kept P xs (λ j t m q. h j t m q .0) s p k (omega arith)) .1)
+
+-- two runs side by side: they show the same where their steps do, and what their states are to each other is kept
+module _
+    {S X T S′ X′ T′ A : Type 0} (step : S → X → T) (next : T → S) (step′ : S′ → X′ → T′) (next′ : T′ → S′) (shown : T → A) (shown′ : T′ → A)
+    (d : X) (d′ : X′) where
+  pub follows-at :
+      (R : ℕ → S → S′ → Type 0) (xs : List X) (ys : List X′) → length xs ≡ length ys
+      → ((k : ℕ) (s : S) (s′ : S′) → k < length xs → R k s s′ → let t = step s (getD xs k d) in let t′ = step′ s′ (getD ys k d′) in
+      R (suc k) (next t) (next′ t′) × (shown t ≡ shown′ t′))
+      → (s : S) (s′ : S′) → R 0 s s′ → map shown (trace step next s xs) ≡ map shown′ (trace step′ next′ s′ ys)
+  unfolding trace
+  follows-at R [] [] l h s s′ r = refl
+  follows-at R [] (y ∷ ys) l h s s′ r = absurd (omega arith)
+  follows-at R (x ∷ xs) [] l h s s′ r = absurd (omega arith)
+  follows-at R (x ∷ xs) (y ∷ ys) l h s s′ r =
+      let now = h 0 s s′ (omega arith) r in
+      ap₂ {C = List A} _∷_ (now .1)
+      (follows-at (λ j. R (suc j)) xs ys (omega arith) (λ j t t′ m. h (suc j) t t′ (omega arith)) _ _ (now .0))
 
 module _ {S X T : Type 0} (core step : S → X → T) (next : T → S) (Good : S → Type 0) where
   pub alike :
@@ -16,15 +67,11 @@ module _ {S X T : Type 0} (core step : S → X → T) (next : T → S) (Good : S
       → (d : X) (s : S) (xs ys : List X) → Good s → length xs ≡ length ys
       → ((i : ℕ) → i < length xs → Like (getD xs i d) (getD ys i d))
       → trace core next s xs ≡ trace step next s ys
-  unfolding trace
-  alike Like same keeps d s [] [] g l like = refl
-  alike Like same keeps d s [] (y ∷ ys) g l like = absurd (let z : 0 ≡ suc (length ys) = l in omega arith)
-  alike Like same keeps d s (x ∷ xs) [] g l like = absurd (let z : suc (length xs) ≡ 0 = l in omega arith)
-  alike Like same keeps d s (x ∷ xs) (y ∷ ys) g l like =
-      let here : Like x y = like 0 (omega arith) in
-      let rest : length xs ≡ length ys = (let z : suc (length xs) ≡ suc (length ys) = l in omega arith) in
-      rw (same s x y g here)
-      (ap (λ (l : List T). core s x ∷ l) (alike Like same keeps d (next (core s x)) xs ys (keeps s x y g here) rest (λ i h. like (suc i) (omega arith))))
+  alike Like same keeps d s xs ys g l like =
+      sym (map-id _)
+      ∙ follows-at core next step next (λ (t : T). t) (λ (t : T). t) d d (λ k s s′. Good s × (s ≡ s′)) xs ys l
+      (λ k s s′ m r. let e = same s _ _ (r .0) (like k m) in rw (← r .1, e) ((keeps s _ _ (r .0) (like k m), refl), refl)) s s (g, refl)
+      ∙ map-id _
 
   pub agree :
       (Fine : X → Type 0)
@@ -44,18 +91,9 @@ module _
       (shown : T → ℕ) (P : ℕ → Type 0) → ((s : S) (x : X) → Good s → Fine x → P (shown (step s x)))
       → (s : S) (xs : List X) → Good s → ((i : ℕ) → i < length xs → Fine (getD xs i d))
       → (i : ℕ) → i < length (map shown (trace step next s xs)) → P (getD (map shown (trace step next s xs)) i 0)
-  unfolding trace
-  column-shows shown P shows s [] g fine i l = absurd (let z : i < 0 = l in omega arith)
-  column-shows shown P shows s (x ∷ xs) g fine zero l = shows s x g (fine 0 (omega arith))
-  column-shows shown P shows s (x ∷ xs) g fine (suc i) l =
-      column-shows shown P shows (next (step s x)) xs (keeps s x g (fine 0 (omega arith))) (λ j m. fine (suc j) (omega arith)) i
-      (let z : suc i < suc (length (map shown (trace step next (next (step s x)) xs))) = l in omega arith)
-
--- a run has a step for each sample
-pub trace-length : {S X T : Type 0} (step : S → X → T) (next : T → S) (s : S) (xs : List X) → length (trace step next s xs) ≡ length xs
-unfolding trace
-trace-length step next s [] = refl
-trace-length step next s (x ∷ xs) = ap suc (trace-length step next (next (step s x)) xs)
+  column-shows shown P shows s xs g fine i l =
+      at-each step next d shown 0 (λ k. Good) (λ k. P) xs (λ k s m g. (keeps s _ g (fine k m), shows s _ g (fine k m))) s g i
+      (omega (arith, length-map (trace step next s xs) shown, trace-length step next s xs))
 
 -- a run goes on from the state that its first part left
 pub trace-append :
