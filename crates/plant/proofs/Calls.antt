@@ -6,12 +6,11 @@ use Prim.Native.Nat.{ℕ, _≤_}
 use native.Mathlib.Omega.{arith}
 use denote.Ref.{now}
 use contract.Lifetimes.{Lfts}
-use lib.ListN.{length, getD}
+use lib.ListN.{length}
 use borrow.Author.Tests.{le-ltb}
 use Rattle.rules.specs.Limits.{badCount, badWidth, outside}
 use Rattle.rules.proofs.Readings.{Makes}
 use Rattle.rules.proofs.Width.{lt-inside}
-use Rattle.rules.proofs.Signals.{bit-small, word-small}
 use Rattle.trace.specs.Samples.{somewhere}
 use Rattle.trace.specs.declared.RunAnswer.the-variants.{Done}
 use Rattle.trace.proofs.Runs.{done-when}
@@ -20,8 +19,9 @@ use Rattle.confirm.specs.Confirm.{madeOf}
 use Rattle.confirm.specs.Run.{steps, publicSteps, shownWord, unequal, answerOf}
 use Rattle.confirm.proofs.Stepwise.{same-steps}
 use Rattle.confirm.proofs.run.Reads as run
-use Rattle.plant.specs.Plant.{Watch, freshOf, There, Formed, Observed, TrulyShown, outputs}
+use Rattle.plant.specs.Plant.{Watch, freshOf, Observed, TrulyShown, outputs}
 use Rattle.plant.specs.Calls.{Means, RunOn}
+use Rattle.plant.proofs.Samples.{samples-inside}
 use Rattle.plant.proofs.Shown.{truly-shown}
 
 -- `confirm::run`: where it answers Done, the words that it has written into the lent slice
@@ -33,13 +33,9 @@ run-shown κs w o a z e p on done =
     let written : now (e .1 .1 .1 .1 .0) ≡ outputs w = p .words-after ∙ simp (done, on .same-width, on .same-need, on .same-word, on .same-samples) in
     rw written (truly-shown w o)
 
--- a sample that is put together of signals is inside the width
-samples-inside : (w : Watch) → Formed w → (k : ℕ) → There w k → outside (w .n) (getD (w .samples) k 0) ≡ false
-samples-inside w f k l = lt-inside (w .n) _ (rw (f k l) (word-small _ (λ i. bit-small i _) (w .n)))
-
 -- where n and N are not refused; the initial word is one that the plant showed
 module _ (w : Watch) (o : Observed w) (counted : badCount (w .need) ≡ false) (wide : badWidth (w .n) ≡ false) where
-  none-refused : Makes (badCount (w .need)) (w .n) (w .initial)
+  pub none-refused : Makes (badCount (w .need)) (w .n) (w .initial)
   none-refused = record {
     counted = counted;
     wide = wide;

@@ -7,6 +7,7 @@ pub mod Needed
 pub mod Outputs
 pub mod Premises
 pub mod Reached
+pub mod Samples
 pub mod Shown
 pub mod Sights
 pub mod Sized

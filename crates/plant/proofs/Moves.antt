@@ -10,7 +10,7 @@ abbrev pub Turns : (ℕ → ℕ) → ℕ → Type 0
 Turns p s = p (suc s) ≢ p s
 
 -- what has two values turns between them
-turn : (p : ℕ → ℕ) (a b : ℕ) → a ≤ b → p a ≢ p b → (s : ℕ) × (a ≤ s) × (s < b) × Turns p s
+pub turn : (p : ℕ → ℕ) (a b : ℕ) → a ≤ b → p a ≢ p b → (s : ℕ) × (a ≤ s) × (s < b) × Turns p s
 turn p a zero l d = let e : a ≡ 0 = omega arith in absurd (d (rw e))
 turn p a (suc b) l d =
     dite (ℕ-discrete a (suc b)) (λ e. absurd (d (rw e)))

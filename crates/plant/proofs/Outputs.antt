@@ -162,6 +162,6 @@ module _ (w : Watch) (start : ℕ) (o : Sufficient w start) where
   )
 
   pub outputs-shown : TrulyShown w (outputs w)
-  outputs-shown k l =
-      let a = along w (After w start) stepped (tracks-fresh w some, is-young (record { all = omega arith; output-is = refl })) k l in
-      rw (a .2) (in-time (a .0) (suc k) l (a .1))
+  outputs-shown =
+      along w (After w start) (λ k word. ShownBy (w .plant) word (w .taken k) (ageOf w)) stepped (λ s k l. in-time s (suc k) l)
+      (tracks-fresh w some, is-young (record { all = omega arith; output-is = refl }))

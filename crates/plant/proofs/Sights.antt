@@ -8,11 +8,11 @@ use native.Mathlib.Decide.{ℕ-discrete, decLe}
 use native.Mathlib.Nat.{suc-mul, zero-mul, one-mul, mul-le-mul-right}
 use lib.ListN.{length}
 use Rattle.rules.specs.Bits.{bit}
-use Rattle.rules.proofs.Signals.{bit-small, word-small, word-bit}
 use Rattle.rules.proofs.Width.{words-agree}
 use Rattle.plant.specs.Plant.{Watch, gapOf, ageOf, ShownBy}
 use Rattle.plant.specs.Weaker.{Sufficient}
 use Rattle.plant.proofs.Words.{apart, apart-grows}
+use Rattle.plant.proofs.Samples.{signal-read, sample-fits}
 use Rattle.plant.proofs.Tracks.{input}
 use Rattle.plant.proofs.Moves.{Turns, once, still}
 
@@ -83,7 +83,7 @@ module _ (w : Watch) (start : ℕ) (o : Sufficient w start) where
 
     shows : (k : ℕ) → k ≤ end → bit i (input w k) ≡ shown (reading w start i k)
     shows zero l = sym (ap (bit i) (o .starts))
-    shows (suc k) l = ap (bit i) (o .formed k l) ∙ word-bit _ (λ j. bit-small j _) (w .n) i il
+    shows (suc k) l = signal-read w (o .formed) k l i il
 
     -- a signal moves at most once, and is still between alike moments, within the quiet gap
     abbrev gap : ℕ
@@ -122,7 +122,7 @@ module _ (w : Watch) (start : ℕ) (o : Sufficient w start) where
 
   input-fits : (k : ℕ) → k ≤ end → input w k < 2 ^ w .n
   input-fits zero l = rw (← o .starts) (o .fits start)
-  input-fits (suc k) l = rw (o .formed k l) (word-small _ (λ j. bit-small j _) (w .n))
+  input-fits (suc k) l = sample-fits w (o .formed) k l
 
   -- a whole word, from moments between the readings of two alike inputs
   still-word :

@@ -15,6 +15,7 @@ use Rattle.confirm.specs.Confirm.{clauses}
 use Rattle.plant.specs.Plant.{Watch, ageOf, There, Changes, Formed, Observed, ShownBy, outputs}
 use Rattle.plant.specs.Stairs.{raised, rise, rising, oldest, stairs}
 use Rattle.plant.specs.Edges.{paperAge}
+use Rattle.plant.proofs.Samples.{signal-read}
 use Rattle.plant.proofs.Shown.{factors, longer}
 use Rattle.plant.proofs.Tracks.{input, Tracks, tracks-fresh, by-clause, alike-on, tracks-next, along}
 
@@ -86,7 +87,7 @@ module _ (n need tm tM d : ℕ) (gaps : tm ≤ tM) (enough : d < need * tm) wher
 
   -- what sample k shows of signal i
   sampled : (i k : ℕ) → i < n → k ≤ oldest n need d → bit i (input w (suc k)) ≡ raised (at i) (k * tM)
-  sampled i k il l = ap (bit i) (formed k (rw list-length (omega arith))) ∙ word-bit _ (λ j. bit-small j _) n i il ∙ signal i (k * tM) il
+  sampled i k il l = signal-read w formed k (rw list-length (omega arith)) i il ∙ signal i (k * tM) il
 
   -- up to sample D nothing has been read but the initial word
   first-samples : (k : ℕ) → k ≤ d → input w (suc k) ≡ 0
@@ -125,8 +126,8 @@ module _ (n need tm tM d : ℕ) (gaps : tm ≤ tM) (enough : d < need * tm) wher
   -- so the initial word is held up to the last sample
   pub held-on : getD (outputs w) (oldest n need d) 0 ≡ 0
   held-on =
-      let a = along w (λ s k. Tracks w s k × (s .output ≡ 0)) step (tracks-fresh w some-count, refl) (oldest n need d) (rw list-length (omega arith)) in
-      a .2 ∙ a .1 .1
+      along w (λ s k. Tracks w s k × (s .output ≡ 0)) (λ k word. word ≡ 0) step (λ s k l a. a .1)
+      (tracks-fresh w some-count, refl) (oldest n need d) (rw list-length (omega arith))
     where
       step : (s : Confirm) (k : ℕ) → There w k → Tracks w s k × (s .output ≡ 0) → Tracks w (clauses s (input w (suc k)) .state) (suc k) × (clauses s (input w (suc k)) .state .output ≡ 0)
       step s k l (tr, z) =

@@ -1,18 +1,17 @@
--- What a state of confirmation says of a watch's inputs, and how to follow a property of states through the run.
+-- What a state of confirmation says of a watch's inputs, and what a property of states says of the words that are shown.
 use mathlib.Core.Path.{_≡_, refl, sym, _∙_}
 use mathlib.Core.Logic.{_≢_, dite}
-use mathlib.Core.List.{List, [], _∷_, map}
 use mathlib.Core.Bool.{Bool, true, false, not}
 use Prim.Native.Nat.{ℕ, zero, suc, _+_, _-_, _≤_, _<_}
 use native.Mathlib.Omega.{arith}
 use native.Mathlib.Decide.{ℕ-discrete}
-use lib.ListN.{length, getD}
+use lib.ListN.{getD}
 use lib.Dec.{ltb, eqb}
 use borrow.Author.Tests.{eqb-true, eqb-false, ltb-true, ltb-false, not-true, not-false}
-use Rattle.trace.specs.Trace.{trace}
+use Rattle.trace.proofs.Steps.{at-each}
 use Rattle.confirm.specs.declared.Confirm.{Confirm}
 use Rattle.confirm.specs.Confirm.{held, confirmed, clauses}
-use Rattle.confirm.specs.Run.{steps, shownWord}
+use Rattle.confirm.specs.Run.{leaves, shownWord}
 use Rattle.confirm.proofs.Clauses.{byTests, shown-stays}
 use Rattle.plant.specs.Plant.{Watch, freshOf, There, outputs}
 
@@ -86,26 +85,12 @@ module _ (w : Watch) (some : 1 ≤ w .need) where
           alike = λ j jk h. alike-on e j jk (omega arith);
         })
 
--- A property of the states after each input holds of some state that has the output shown at each sample.
-module _ (w : Watch) (P : Confirm → ℕ → Type 0) (step : (s : Confirm) (k : ℕ) → k < length (w .samples) → P s k → P (clauses s (input w (suc k)) .state) (suc k)) where
-  took : (s : Confirm) (k x : ℕ) → k < length (w .samples) → x ≡ input w (suc k) → P s k → P (clauses s x .state) (suc k)
-  took s k x l e i = rw e (step s k l i)
-
-  -- the rest of the trace, from a state after input k
-  onwards :
-      (xs : List ℕ) (s : Confirm) (k : ℕ) → k + length xs ≡ length (w .samples)
-      → ((j m : ℕ) → k + j ≡ m → j < length xs → getD xs j 0 ≡ getD (w .samples) m 0)
-      → P s k
-      → (j m : ℕ) → k + j ≡ m → j < length xs
-      → (z : Confirm) × P z (suc m) × (getD (map shownWord (steps s xs)) j 0 ≡ z .output)
-  unfolding trace
-  onwards [] s k f same i j m e l = absurd (omega (arith, l))
-  onwards (x ∷ xs) s k f same i zero m e l =
-      let q : k ≡ m = omega arith in
-      rw (← q) (clauses s x .state, took s k x (omega arith) (same 0 k (omega arith) (omega arith)) i, shown-stays s x)
-  onwards (x ∷ xs) s k f same i (suc j) m e l =
-      onwards xs (clauses s x .state) (suc k) (omega arith) (λ j m e l. same (suc j) m (omega arith) (omega arith))
-      (took s k x (omega arith) (same 0 k (omega arith) (omega arith)) i) j m (omega arith) (omega arith)
-
-  pub along : P (freshOf w) 0 → (k : ℕ) → There w k → (z : Confirm) × P z (suc k) × (getD (outputs w) k 0 ≡ z .output)
-  along begins k l = onwards (w .samples) (freshOf w) 0 (omega arith) (λ j m e l. (let q : j ≡ m = omega arith in rw q)) begins k k (omega arith) l
+-- A property of the states after each input, and what it says of the output: so of the words that are shown.
+pub along :
+    (w : Watch) (P : Confirm → ℕ → Type 0) (Q : ℕ → ℕ → Type 0)
+    → ((s : Confirm) (k : ℕ) → There w k → P s k → P (clauses s (input w (suc k)) .state) (suc k))
+    → ((s : Confirm) (k : ℕ) → There w k → P s (suc k) → Q k (s .output))
+    → P (freshOf w) 0 → (k : ℕ) → There w k → Q k (getD (outputs w) k 0)
+along w P Q step says =
+    at-each clauses leaves 0 shownWord 0 (λ k s. P s k) Q (w .samples)
+    (λ k s l p. let q = step s k l p in (q, rw (shown-stays s (input w (suc k))) (says _ k l q))) (freshOf w)
