@@ -1,4 +1,5 @@
--- Steps over some samples of a trace, from any state: what stands written for them, and the state that they leave. The loops of a run.
+-- Serves proofs only: the loops of a run. Steps over some samples of a trace, from any state: what stands written for
+-- them, and the state that they leave.
 use Prim.Native.Nat.{ℕ}
 use mathlib.Core.Path.{_≡_}
 use mathlib.Core.List.{List, map}

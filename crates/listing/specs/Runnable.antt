@@ -1,4 +1,5 @@
--- What the parts of the listing hand to each other: columns that a run accepts, and room for what it writes.
+-- Serves proofs, and the statement of `one-never`: what the parts of the listing hand to each other, columns that a run accepts,
+-- and room for what it writes.
 use Prim.Native.Nat.{ℕ, _≤_}
 use mathlib.Core.Path.{_≡_}
 use mathlib.Core.Bool.{false}

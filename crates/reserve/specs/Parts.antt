@@ -1,4 +1,5 @@
--- The steps from a hand-over on, by units 3 and 4 alone: one with a reset, and from then on none.
+-- Serves proofs, and the statement of `in-parts`: the steps from a hand-over on, by units 3 and 4 alone, one with a
+-- reset, and from then on none.
 use Prim.Native.Nat.{ℕ}
 use mathlib.Core.List.{List, [], _∷_}
 use mathlib.Core.Bool.{true}

@@ -1,4 +1,5 @@
--- A step in parts, as a run takes it: the counts step in place, and what else is left stands apart from them.
+-- Serves proofs only: a step in parts, as a run takes it. The counts step in place, and what else is left stands apart
+-- from them.
 use Prim.Native.Nat.{ℕ, _≤_, _<_}
 use mathlib.Core.Path.{_≡_}
 use mathlib.Core.List.{List}
