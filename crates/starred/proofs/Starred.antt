@@ -21,4 +21,4 @@ use Rattle.starred.specs.Table.{table}
 
 pub starred : Every table
 unfolding first firstWhere runAnswer trace fieldsOf readOf textOf listingOf heading line joined asList someBelow bytes digits placesUpTo glyph clauses vote-clauses reserve-clauses sizingOf thresholdOf zip ofBits sub neg le lt
-starred = ((refl, refl, refl), (refl, ((refl, refl, refl), (refl, (refl, (refl, ((refl, refl, refl), ((refl, refl, refl), ((refl, refl, refl), (refl, (refl, (refl, tt))))))))))))
+starred = ((refl, refl, refl, refl), (refl, ((refl, refl, refl, refl), (refl, (refl, (refl, ((refl, refl, refl), ((refl, refl, refl), ((refl, refl, refl), (refl, (refl, (refl, tt))))))))))))

@@ -5,7 +5,7 @@ use Prim.Native.String.{String}
 use mathlib.Core.List.{List, [], _∷_, _++_, map}
 use lib.Ieee.{Float}
 use Rattle.trace.specs.declared.RunAnswer.the-variants.{Done}
-use Rattle.sizing.specs.Sizing.{sizingOf}
+use Rattle.sizing.specs.Sizing.{sizingOf, notSized}
 use Rattle.threshold.specs.Threshold.{thresholdOf}
 use Rattle.vote.specs.Vote as vote
 use Rattle.vote.specs.Run as voteRun
@@ -59,9 +59,9 @@ pub data Row : Type 0 where
 
 -- a sizing is claimed field by field; a run is lent slices of the right lengths, and what they hold before does not matter
 abbrev pub Holds : Row → Type 0
-Holds (sizing-n n Tm tm TM tM D d gives-N need age: old gap: quiet) = let z = sizingOf n tm tM d in (z .need ≡ need) × (z .age ≡ old) × (z .quiet ≡ quiet)
+Holds (sizing-n n Tm tm TM tM D d gives-N need age: old gap: quiet) = let z = sizingOf n tm tM d in (z .refusal ≡ 0) × (z .need ≡ need) × (z .age ≡ old) × (z .quiet ≡ quiet)
 Holds (count-n n Tm tm TM tM D d is need) = sizingOf n tm tM d .need ≡ need
-Holds (sizing-n n Tm tm TM tM D d refused number) = sizingOf n tm tM d .refusal ≡ number
+Holds (sizing-n n Tm tm TM tM D d refused number) = sizingOf n tm tM d ≡ notSized number
 Holds (recording s lists lines) = textOf s ≡ asText lines
 Holds (vote-n n N need from word lists lines) =
     (voteRun.answerOf n need word (column (λ x. x .0) lines) (column (λ x. x .1) lines) (map wordIn lines) (map markIn lines) ≡ Done)

@@ -17,7 +17,14 @@ use Rattle.reserve.proofs.Stepwise.{made-fresh}
 use Rattle.reserve.proofs.run.Statement.{statement}
 use Rattle.reserve.proofs.run.Tie as tie
 
-answered : (c : tie.After-judge-four) → let a = c .before .before .before .before .before .before .before .before .args in
+-- the start, and what was judged, seen from where the answer is told apart
+abbrev start-of : tie.After-judge-four → tie.Start
+start-of c = c .before .before .before .before .before .before .before .before
+
+abbrev judged : tie.After-enum-told → tie.After-judge-four
+judged c = c .before .before
+
+answered : (c : tie.After-judge-four) → let a = start-of c .args in
     c .judge-four .result ≡ answerOf (a .n) (a .need) (a .word) (a .a .now) (a .b .now) (a .c .now) (a .d .now) (a .words .now) (a .marks .now)
 answered c = rw (c .judge-four .ensures, c .before .bad-count .ensures)
 
@@ -27,14 +34,14 @@ returns c =
     record { answered = answered (c .before .before); words-after = rw refused; marks-after = rw refused }
 
 -- where the run is not refused
-fine : (c : tie.After-enum-told) → let x = c .before .before .before .before .before .before .before .before .before .before .args in
+fine : (c : tie.After-enum-told) → let x = start-of (judged c) .args in
     let a = x .a .now in let b = x .b .now in let c = x .c .now in let d = x .d .now in
     Runs (badCount (x .need)) (x .n) (x .word) (longFour a b c d) (apartFour a b c d (unequal a (x .words .now) (x .marks .now)))
     (somewhere (outsideFour (x .n)) (samplesOf a b c d))
-fine c = answer-done _ _ _ _ _ outsideFour _ (sym (answered (c .before .before)) ∙ c .enum-told .given .1)
+fine c = answer-done _ _ _ _ _ outsideFour _ (sym (answered (judged c)) ∙ c .enum-told .given .1)
 
 -- the run starts from the fresh state
-start : (c : tie.After-from-word) → let x = c .before .before .before .before .before .before .before .before .before .before .before .args in
+start : (c : tie.After-from-word) → let x = start-of (judged (c .before)) .args in
     c .from-word .result .state ≡ fresh (x .n) (x .need) (x .word)
 start c =
     let f = fine (c .before) in
@@ -53,7 +60,7 @@ returns-2 c =
     let made = wrote .before .before .before .before in
     let ran = made .before .enum-told .given .1 in
     record {
-      answered = sym ran ∙ answered (made .before .before .before);
+      answered = sym ran ∙ answered (judged (made .before));
       words-after = rw (← start made) (wrote .write-steps .ensures .0);
       marks-after = rw (← start made) (wrote .write-steps .ensures .1);
     }

@@ -6,7 +6,14 @@ use Rattle.tuple.specs.Run.{answerOf}
 use Rattle.tuple.proofs.run.Statement.{statement}
 use Rattle.tuple.proofs.run.Tie as tie
 
-answered : (c : tie.After-judge-pair) → let a = c .before .before .before .before .before .before .before .args in
+-- the start, and what was judged, seen from where the answer is told apart
+abbrev start-of : tie.After-judge-pair → tie.Start
+start-of c = c .before .before .before .before .before .before .before
+
+abbrev judged : tie.After-enum-told → tie.After-judge-pair
+judged c = c .before .before
+
+answered : (c : tie.After-judge-pair) → let a = start-of c .args in
     c .judge-pair .result ≡ answerOf (a .n) (a .need) (a .word) (a .a .now) (a .b .now) (a .words .now) (a .masks .now) (a .marks .now)
 answered c = rw (c .judge-pair .ensures, c .before .bad-count .ensures)
 
@@ -16,9 +23,9 @@ returns c =
     record { answered = answered (c .before .before); words-after = rw refused; masks-after = rw refused; marks-after = rw refused }
 
 -- the run is accepted
-accepted : (c : tie.After-enum-told) → let a = c .before .before .before .before .before .before .before .before .before .args in
+accepted : (c : tie.After-enum-told) → let a = start-of (judged c) .args in
     answerOf (a .n) (a .need) (a .word) (a .a .now) (a .b .now) (a .words .now) (a .masks .now) (a .marks .now) ≡ Done
-accepted c = sym (answered (c .before .before)) ∙ c .enum-told .given .1
+accepted c = sym (answered (judged c)) ∙ c .enum-told .given .1
 
 returns-2 : tie.Need-returns-2
 returns-2 c =

@@ -10,7 +10,14 @@ use Rattle.vote.proofs.Parts.{all-long, whole-run}
 use Rattle.vote.proofs.run.Statement.{statement}
 use Rattle.vote.proofs.run.Tie as tie
 
-answered : (c : tie.After-judge-pair) → let a = c .before .before .before .before .before .before .args in
+-- the start, and what was judged, seen from where the answer is told apart
+abbrev start-of : tie.After-judge-pair → tie.Start
+start-of c = c .before .before .before .before .before .before
+
+abbrev judged : tie.After-enum-told → tie.After-judge-pair
+judged c = c .before .before
+
+answered : (c : tie.After-judge-pair) → let a = start-of c .args in
     c .judge-pair .result ≡ answerOf (a .n) (a .need) (a .word) (a .a .now) (a .b .now) (a .words .now) (a .marks .now)
 answered c = rw (c .judge-pair .ensures, c .before .bad-count .ensures)
 
@@ -20,9 +27,9 @@ returns c =
     record { answered = answered (c .before .before); words-after = rw refused; marks-after = rw refused }
 
 -- where the run is not refused, every slice is as long as the first column
-alike : (c : tie.After-enum-told) → let a = c .before .before .before .before .before .before .before .before .args in
+alike : (c : tie.After-enum-told) → let a = start-of (judged c) .args in
     apartPair (a .a .now) (a .b .now) (unequal (a .a .now) (a .words .now) (a .marks .now)) ≡ false
-alike c = answer-done _ _ _ _ _ outsidePair _ (sym (answered (c .before .before)) ∙ c .enum-told .given .1) .alike
+alike c = answer-done _ _ _ _ _ outsidePair _ (sym (answered (judged c)) ∙ c .enum-told .given .1) .alike
 
 take-steps-requires : tie.Need-take-steps-requires
 take-steps-requires c κs = all-long _ _ _ _ (alike (c .before .before .before))
@@ -34,7 +41,7 @@ returns-2 c =
     let ran = f .before .enum-told .given .1 in
     let whole = whole-run _ _ _ _ _ _ _ _ (wrote .take-steps .ensures) in
     record {
-      answered = sym ran ∙ answered (f .before .before .before);
+      answered = sym ran ∙ answered (judged (f .before));
       words-after = rw (← f .fresh .ensures) (whole .0);
       marks-after = rw (← f .fresh .ensures) (whole .1);
     }
