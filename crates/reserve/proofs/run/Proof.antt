@@ -1,11 +1,12 @@
 -- `reserve::run` meets its contract: a refused run leaves every slice, and where none is refused the lengths are alike.
 use mathlib.Core.Path.{_≡_, sym, ap, _∙_}
+use mathlib.Core.Bool.{Bool}
 use borrow.Author.Needs.{needs}
 use Rattle.rules.specs.Limits.{badCount}
 use Rattle.rules.proofs.Ranges.{same}
 use Rattle.rules.proofs.Readings.{Runs, run-makes}
 use Rattle.rules.proofs.Tables.{or-each}
-use Rattle.trace.specs.Answers.{longFour, apartFour}
+use Rattle.trace.specs.Answers.{fourAnswer, longFour, apartFour}
 use Rattle.trace.specs.Samples.{somewhere, outsideFour}
 use Rattle.trace.proofs.Runs.{answer-done}
 use Rattle.vote.specs.Run.{unequal}
@@ -26,7 +27,10 @@ judged c = c .before .before
 
 answered : (c : tie.After-judge-four) → let a = start-of c .args in
     c .judge-four .result ≡ answerOf (a .n) (a .need) (a .word) (a .a .now) (a .b .now) (a .c .now) (a .d .now) (a .words .now) (a .marks .now)
-answered c = rw (c .judge-four .ensures, c .before .bad-count .ensures)
+answered c =
+    let a = start-of c .args in
+    let apart = unequal (a .a .now) (a .words .now) (a .marks .now) in
+    c .judge-four .ensures ∙ ap (λ (m : Bool). fourAnswer m (a .n) (a .word) (a .a .now) (a .b .now) (a .c .now) (a .d .now) apart) (c .before .bad-count .ensures)
 
 returns : tie.Need-returns
 returns c =

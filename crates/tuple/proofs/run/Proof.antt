@@ -1,8 +1,10 @@
 -- `tuple::run` meets its contract: a refused run leaves every slice, and the steps of an accepted one are written.
-use mathlib.Core.Path.{_≡_, sym, _∙_}
+use mathlib.Core.Path.{_≡_, sym, ap, _∙_}
+use mathlib.Core.Bool.{Bool}
 use borrow.Author.Needs.{needs}
 use Rattle.trace.specs.declared.RunAnswer.the-variants.{Done}
-use Rattle.tuple.specs.Run.{answerOf}
+use Rattle.trace.specs.Answers.{pairAnswer}
+use Rattle.tuple.specs.Run.{unequal, answerOf}
 use Rattle.tuple.proofs.run.Statement.{statement}
 use Rattle.tuple.proofs.run.Tie as tie
 
@@ -15,7 +17,10 @@ judged c = c .before .before
 
 answered : (c : tie.After-judge-pair) → let a = start-of c .args in
     c .judge-pair .result ≡ answerOf (a .n) (a .need) (a .word) (a .a .now) (a .b .now) (a .words .now) (a .masks .now) (a .marks .now)
-answered c = rw (c .judge-pair .ensures, c .before .bad-count .ensures)
+answered c =
+    let a = start-of c .args in
+    let apart = unequal (a .a .now) (a .words .now) (a .masks .now) (a .marks .now) in
+    c .judge-pair .ensures ∙ ap (λ (m : Bool). pairAnswer m (a .n) (a .word) (a .a .now) (a .b .now) apart) (c .before .bad-count .ensures)
 
 returns : tie.Need-returns
 returns c =

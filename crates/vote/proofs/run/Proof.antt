@@ -1,8 +1,8 @@
 -- `vote::run` meets its contract: a refused run leaves every slice, and where none is refused the lengths are alike.
-use mathlib.Core.Path.{_≡_, sym, _∙_}
-use mathlib.Core.Bool.{false}
+use mathlib.Core.Path.{_≡_, sym, ap, _∙_}
+use mathlib.Core.Bool.{Bool, false}
 use borrow.Author.Needs.{needs}
-use Rattle.trace.specs.Answers.{apartPair}
+use Rattle.trace.specs.Answers.{pairAnswer, apartPair}
 use Rattle.trace.specs.Samples.{outsidePair}
 use Rattle.trace.proofs.Runs.{answer-done}
 use Rattle.vote.specs.Run.{answerOf, unequal}
@@ -19,7 +19,10 @@ judged c = c .before .before
 
 answered : (c : tie.After-judge-pair) → let a = start-of c .args in
     c .judge-pair .result ≡ answerOf (a .n) (a .need) (a .word) (a .a .now) (a .b .now) (a .words .now) (a .marks .now)
-answered c = rw (c .judge-pair .ensures, c .before .bad-count .ensures)
+answered c =
+    let a = start-of c .args in
+    let apart = unequal (a .a .now) (a .words .now) (a .marks .now) in
+    c .judge-pair .ensures ∙ ap (λ (m : Bool). pairAnswer m (a .n) (a .word) (a .a .now) (a .b .now) apart) (c .before .bad-count .ensures)
 
 returns : tie.Need-returns
 returns c =
