@@ -1,0 +1,83 @@
+"""What the documents say beside names: how wide they are, which wrong answers are tried, what a command prints, and in which order
+the definitions are read. Each function gives the complaints about a text; .ci/test-docs has the rules."""
+import re
+import subprocess
+
+from documents import prose_lines, sections
+
+WIDTH = 120
+MACHINE = r'(?<![\w.])/(?:tmp|work|opt|root|home)/'
+
+
+def form(text):
+    for number, line in prose_lines(text):
+        if len(line) > WIDTH:
+            yield 'line %d has %d characters' % (number, len(line))
+    for number, line in enumerate(text.split('\n'), 1):
+        if re.search(MACHINE, line):
+            yield 'line %d names a path of a machine' % number
+
+
+def answers(text, project):
+    """A wrong answer stands in a section of its room, or with its room's name anywhere; if no section is its room's, anywhere."""
+    parts = list(sections(text))
+    for room, names in project.answers.items():
+        own = [part for rooms, part in parts if room in rooms] or [part for _, part in parts]
+        for name in names:
+            if '`%s/%s`' % (room, name) not in text and not any('`%s`' % name in part for part in own):
+                yield 'does not name the wrong answer %s of %s' % (name, room)
+
+
+def told(text):
+    """(command, output) of each line of code that begins with a prompt; a quote may go on over lines."""
+    lines, at = text.split('\n') + [''], 0
+    while at < len(lines):
+        line, at = lines[at], at + 1
+        if not line.startswith('    $ '):
+            continue
+        command, output = line[6:], []
+        while command.count("'") % 2 and at < len(lines):
+            command, at = command + '\n' + lines[at], at + 1
+        while lines[at].startswith('    ') and not lines[at].startswith('    $ '):
+            output, at = output + [lines[at][4:]], at + 1
+        yield command, output
+
+
+def dumps(text):
+    """(command, lines) of each dump: a command of od in backquotes, and the code after it, less the words that explain a line."""
+    for command, code in re.findall(r'`(od [^`]+)`[^`]*?\n\n((?: {4}.*\n)+)', text):
+        yield command, [re.split(r' {4}', line[4:])[0].rstrip() for line in code.splitlines()]
+
+
+def commands(text, top):
+    for command, output in [*told(text), *dumps(text)]:
+        done = subprocess.run(['bash', '-c', command], cwd=top, stdout=subprocess.PIPE, stderr=subprocess.DEVNULL, timeout=60)
+        if done.stdout.decode(errors='replace').splitlines() != output:
+            yield 'has a command that prints another text: %s' % command.split('\n')[0]
+
+
+def rows(text):
+    """(file of specs/, its lines as told) of each row of a table."""
+    return [(name, int(lines)) for name, lines in re.findall(r'^\| `(\w+/specs/\w+\.antt)` \| (\d+) \|', text, re.M)]
+
+
+def reading(text, top):
+    """Every file of definitions is named, with its length to tens, and in the first table after those that it uses."""
+    crates = top / 'crates'
+    for path in sorted(crates.glob('*/specs/*.antt')):
+        name = str(path.relative_to(crates))
+        if path.name != 'Lib.antt' and '`%s`' % name not in text:
+            yield 'does not name %s' % name
+    for path in [*crates.glob('*/specs/*.antt'), *crates.glob('*/src/*.rt')]:
+        if re.search(r'^(?:ghost )?use \S*proofs\.', path.read_text(), re.M):
+            yield 'says that contracts and definitions cite no proof, and %s does' % path.relative_to(crates)
+    for name, lines in rows(text):
+        if (crates / name).exists() and abs(len((crates / name).read_text().splitlines()) - lines) > 9:
+            yield 'says that %s has %d lines' % (name, lines)
+    before = set()
+    for name, _ in rows(re.split(r'(?m)^## ', text)[2]):
+        for room, file in re.findall(r'^use Rattle·(\w+?)(?:·specs)?\.specs\.(?!declared)(\w+)', (crates / name).read_text(), re.M):
+            used = '%s/specs/%s.antt' % (room, file)
+            if used not in before:
+                yield 'has %s before %s, which it uses' % (name, used)
+        before.add(name)
