@@ -125,7 +125,8 @@ class Project:
             for path in (self.top / folder).rglob('*'):
                 if path.is_file() and '__pycache__' not in path.parts:
                     self.anywhere |= names_in(path) | {path.stem, path.name}
-        self.anywhere |= {p.name for p in self.top.iterdir()}
+        for path in self.top.iterdir():
+            self.anywhere |= {path.name} | (names_in(path) if path.is_file() else set())
 
     def kit(self):
         """The rooms of the kit that crates.txt names: io, check, libc."""

@@ -75,15 +75,15 @@ class Names:
             yield from ((name, 'Unique.antt', unique) for name in TOKEN.findall(match[1]))
 
     def is_path(self, document, path):
-        """From the top, in some crate, beside the document, or an edit's wrong answer. What a build makes is not there yet."""
+        """From the top, in some crate, beside the document, or a wrong answer. What is built or installed is not there yet."""
         places = [self.top, self.top / 'crates', (self.top / document).parent, *(self.top / 'crates').iterdir()]
-        if path.startswith('target/') or path in self.answers:
+        if path.startswith(('target/', 'PREFIX/', '/')) or path in self.answers:
             return True
         return any(list(place.glob(path)) if '*' in path else (place / path).exists() for place in places)
 
     def is_defined(self, name, rooms):
-        """In the section's rooms, or, where it has none, anywhere."""
-        if name in OUTSIDE or name in self.project.rooms:
+        """In the section's rooms, or, where it has none, anywhere. An option with one dash is another program's."""
+        if name in OUTSIDE or name in self.project.rooms or re.match(r'-[^-]', name):
             return True
         return any(name in self.project.rooms[r] for r in rooms) if rooms else name in self.project.anywhere
 
