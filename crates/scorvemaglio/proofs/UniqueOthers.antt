@@ -1,4 +1,4 @@
--- The same for the sizing, the threshold vote, the reader and the listing.
+-- The same for the sizing, the threshold vote, the reader, the listing and the version.
 use Prim.Native.Nat.{ℕ}
 use mathlib.Core.List.{List, [], _∷_, _++_}
 use denote.Ref.{now}
@@ -14,11 +14,13 @@ use Rattle.threshold.specs.Threshold.{numberOf, thresholdOf}
 use Rattle.recording.specs.Recording.{sliceAfter}
 use Rattle.listing.specs.Listing.{answerOf, textOf, tooShort}
 use Rattle.scorvemaglio.specs.Others.{readingsOf, readingAfter, markAfter, readFrom, headerAfter, listNumber, writtenAfter, refusedAfter}
+use Rattle.scorvemaglio.specs.Version.{version}
 use Rattle.scorvemaglio.proofs.Unique.{Made, made, makes-says}
 use Rattle.scorvemaglio.proofs.others.scorve_sizing_of.Reads as sizing-of
 use Rattle.scorvemaglio.proofs.others.scorve_threshold_vote.Reads as threshold-vote
 use Rattle.scorvemaglio.proofs.others.scorve_recording_read.Reads as recording-read
 use Rattle.scorvemaglio.proofs.others.scorve_listing_list.Reads as listing-list
+use Rattle.scorvemaglio.proofs.version.scorve_version.Reads as told
 
 pub sizing-of-unique :
     (κs : Lfts 1)
@@ -73,3 +75,6 @@ pub listing-list-unique :
     let x = answerOf (length out) s in
     (listNumber x, if tooShort (length out) then out else textOf s ++ drop (length (textOf s)) out, writtenAfter x (now (a .1 .1 .0)), refusedAfter x (now (a .1 .1 .1 .0))))
 listing-list-unique κs = fixes (λ a z e p. let l = p .listed in let t = p .told in cc)
+
+pub version-unique : Fixes (told.Learnt tt) (λ z e. z) (λ a. version)
+version-unique = fixes (λ a z e p. p)

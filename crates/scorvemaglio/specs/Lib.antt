@@ -3,3 +3,4 @@ pub mod Others
 pub mod Runs
 pub mod States
 pub mod Voters
+pub mod Version

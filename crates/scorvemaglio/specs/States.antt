@@ -1,5 +1,5 @@
 -- States as C has them: numbers, in the order of the header's fields.
-use Prim.Native.Nat.{ℕ}
+use Prim.Native.Nat.{ℕ, _+_}
 use mathlib.Core.List.{List, [], _∷_, _++_}
 use mathlib.Core.Bool.{Bool}
 use lib.Dec.{eqb, ltb}
@@ -24,9 +24,15 @@ voteOf s = record { n = getD s 0 0; need = getD s 1 0; word = getD s 2 0; count 
 abbrev pub voteNumbers : Vote → List ℕ
 voteNumbers s = s .n ∷ s .need ∷ s .word ∷ s .count ∷ []
 
--- the confirmation's five numbers, the agreed signals, and the counts
+-- the confirmation's five numbers, the agreed signals, and the counts of 32 places
+abbrev pub countsAt : ℕ
+countsAt = 6
+
+abbrev pub tupleLength : ℕ
+tupleLength = countsAt + 32
+
 abbrev pub tupleOf : List ℕ → Tuple
-tupleOf s = record { confirm = confirmOf s; agreed = getD s 5 0; counts = drop 6 s }
+tupleOf s = record { confirm = confirmOf s; agreed = getD s 5 0; counts = drop countsAt s }
 
 abbrev pub tupleNumbers : Tuple → List ℕ
 tupleNumbers s = confirmNumbers (s .confirm) ++ s .agreed ∷ s .counts

@@ -4,6 +4,7 @@ mod confirms;
 mod others;
 mod reserves;
 mod tuples;
+mod version;
 mod votes;
 
 use trace::RunAnswer;

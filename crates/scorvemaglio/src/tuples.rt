@@ -8,23 +8,27 @@ ghost use lib.ListN.{drop};
 ghost use Rattle.rules.specs.Limits.{defaultWord};
 ghost use Rattle.tuple.specs.Tuple.{madeOf, stepOf};
 ghost use Rattle.scorvemaglio.specs.Runs.{RunsTuple};
-ghost use Rattle.scorvemaglio.specs.States.{tupleOf, tupleNumbers};
+ghost use Rattle.scorvemaglio.specs.States.{countsAt, tupleOf, tupleNumbers};
 ghost use Rattle.scorvemaglio.specs.Voters.{MakesTuple, StepsTuple};
 
-// The counts stand behind six numbers.
-fn counts_of(s: [u32; 38]) -> [u32; 32]
-    ensures { λ r. ⌜ r ≡ drop 6 s ⌝ }
+// The numbers of a state before its counts, and all of them.
+const COUNTS_AT: usize = 6;
+
+const NUMBERS: usize = COUNTS_AT + 32;
+
+fn counts_of(s: [u32; NUMBERS]) -> [u32; 32]
+    ensures { λ r. ⌜ r ≡ drop countsAt s ⌝ }
 {
     let mut counts = [0u32; 32];
     let mut i = 0usize;
     while i < 32 {
-        counts[i] = s[6 + i];
+        counts[i] = s[COUNTS_AT + i];
         i += 1;
     }
     counts
 }
 
-fn tuple_of(s: [u32; 38]) -> Tuple
+fn tuple_of(s: [u32; NUMBERS]) -> Tuple
     ensures { λ r. ⌜ r ≡ tupleOf s ⌝ }
 {
     let confirm = Confirm {
@@ -42,28 +46,28 @@ fn tuple_of(s: [u32; 38]) -> Tuple
     }
 }
 
-fn tuple_numbers(t: Tuple) -> [u32; 38]
+fn tuple_numbers(t: Tuple) -> [u32; NUMBERS]
     ensures { λ r. ⌜ r ≡ tupleNumbers t ⌝ }
 {
     let confirm = t.confirm;
     let counts = t.counts;
-    let mut s = [0u32; 38];
+    let mut s = [0u32; NUMBERS];
     s[0] = confirm.n;
     s[1] = confirm.need;
     s[2] = confirm.input;
     s[3] = confirm.output;
     s[4] = confirm.count;
     s[5] = t.agreed;
-    let mut i = 6usize;
-    while i < 38 {
-        s[i] = counts[i - 6];
+    let mut i = COUNTS_AT;
+    while i < NUMBERS {
+        s[i] = counts[i - COUNTS_AT];
         i += 1;
     }
     s
 }
 
 // Where a state was made, it is written.
-fn put_made(state: &mut [u32; 38], made: TupleMade) -> u32
+fn put_made(state: &mut [u32; NUMBERS], made: TupleMade) -> u32
     ensures { λ r. ⌜ MakesTuple made (now (state .entry)) r (now (state .exit)) ⌝ }
 {
     if made.refusal != 0 {
@@ -74,7 +78,7 @@ fn put_made(state: &mut [u32; 38], made: TupleMade) -> u32
 }
 
 // Where a step was taken, the state that it leaves and what it shows are written.
-fn put_step(state: &mut [u32; 38], answer: &mut [u32; 3], taken: TupleStep) -> u32
+fn put_step(state: &mut [u32; NUMBERS], answer: &mut [u32; 3], taken: TupleStep) -> u32
     ensures { λ r. ⌜ StepsTuple taken (now (state .entry)) (now (answer .entry)) r (now (state .exit)) (now (answer .exit)) ⌝ }
 {
     let shown = taken.answer;
@@ -88,14 +92,19 @@ fn put_step(state: &mut [u32; 38], answer: &mut [u32; 3], taken: TupleStep) -> u
 }
 
 #[no_mangle]
-pub extern "C" fn scorve_tuple_from_word(state: &mut [u32; 38], n: u32, need: u32, word: u32) -> u32
+pub extern "C" fn scorve_tuple_from_word(
+    state: &mut [u32; NUMBERS],
+    n: u32,
+    need: u32,
+    word: u32,
+) -> u32
     ensures { λ r. ⌜ MakesTuple (madeOf n need word) (now (state .entry)) r (now (state .exit)) ⌝ }
 {
     put_made(state, Tuple::from_word(n, need, word))
 }
 
 #[no_mangle]
-pub extern "C" fn scorve_tuple_new(state: &mut [u32; 38], n: u32, need: u32) -> u32
+pub extern "C" fn scorve_tuple_new(state: &mut [u32; NUMBERS], n: u32, need: u32) -> u32
     ensures { λ r. ⌜ MakesTuple (madeOf n need (defaultWord n)) (now (state .entry)) r (now (state .exit)) ⌝ }
 {
     put_made(state, Tuple::new(n, need))
@@ -103,7 +112,7 @@ pub extern "C" fn scorve_tuple_new(state: &mut [u32; 38], n: u32, need: u32) -> 
 
 #[no_mangle]
 pub extern "C" fn scorve_tuple_step(
-    state: &mut [u32; 38],
+    state: &mut [u32; NUMBERS],
     a: u32,
     b: u32,
     answer: &mut [u32; 3],

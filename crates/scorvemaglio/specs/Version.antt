@@ -1,0 +1,5 @@
+-- The version of the boundary: the header's SCORVE_VERSION.
+use Prim.Native.Nat.{ℕ}
+
+abbrev pub version : ℕ
+version = 1
