@@ -1,11 +1,33 @@
-//! A thin safe wrapper around libscorvemaglio.a: what include/scorvemaglio.h says holds here. Each call returns `Err` with the
-//! refusal's number where the C function returns it. Rust's borrows keep the two promises that the header leaves to the caller:
-//! pointers are valid, and a place that is written overlaps no other.
-//! Build a program that has `mod scorvemaglio;` with `rustc --edition 2021 -L FOLDER program.rs`, the archive being in FOLDER.
+//! A thin safe wrapper around libscorvemaglio.a: what include/scorvemaglio.h says holds here. Each call returns `Err`
+//! with the refusal's number where the C function returns it. Rust's borrows keep what the header leaves to the caller:
+//! pointers are valid and aligned, and a place that is written overlaps no other.
+//! Build a program that has `mod scorvemaglio;` with `rustc --edition 2021 -L FOLDER program.rs`, the archive being in
+//! FOLDER.
 #![allow(dead_code)] // a program uses what it needs
 
+// The numbers of the header, under its names. `.ci/test-rust-header` compares all that is declared here with it.
+pub const VERSION: u32 = 1;
+pub const MAX_WIDTH: usize = 32;
+pub const MAX_COUNT: u32 = 1000;
 pub const MAX_SAMPLES: usize = 2048;
+pub const LONGEST_RECORDING: usize = 41004;
 pub const LONGEST_LISTING: usize = 50111;
+
+/// What a refused call gives as its `Err`; `OK` is none.
+pub const OK: u32 = 0;
+pub const BAD_COUNT: u32 = 1;
+pub const BAD_WIDTH: u32 = 2;
+pub const TOO_LONG: u32 = 3;
+pub const BAD_LENGTH: u32 = 4;
+pub const BAD_WORD: u32 = 5;
+pub const BAD_SAMPLE: u32 = 6;
+pub const BAD_STATE: u32 = 7;
+pub const BAD_VOTED: u32 = 8;
+pub const BAD_TIMES: u32 = 9;
+pub const COUNT_TOO_BIG: u32 = 10;
+pub const BAD_READING: u32 = 11;
+pub const NO_RECORDING: u32 = 12;
+pub const BUFFER_TOO_SHORT: u32 = 100;
 
 /// The mark of an answer. `AGREED` is the same number as `CONFIRMED`.
 pub const CONFIRMED: u32 = 0;
@@ -13,27 +35,31 @@ pub const AGREED: u32 = 0;
 pub const HELD: u32 = 1;
 pub const ALARM: u32 = 2;
 
-// A struct of the header: its fields in the header's order, laid out as in C. The last number is its size there.
+/// The phase of a reserve vote.
+pub const PRIMARY: u32 = 0;
+pub const TAKING_OVER: u32 = 1;
+pub const RESERVE: u32 = 2;
+
+// A struct of the header: its fields in the header's order, laid out as in C.
 macro_rules! c_struct {
-    ($name:ident { $($field:ident: $kind:ty),* }, $bytes:expr) => {
+    ($name:ident { $($field:ident: $kind:ty),* }) => {
         #[repr(C)]
         #[derive(Clone, Copy, Debug, Default, PartialEq)]
         pub struct $name { $(pub $field: $kind),* }
-        const _: () = assert!(std::mem::size_of::<$name>() == $bytes);
     };
 }
 
-c_struct!(Confirm { n: u32, need: u32, input: u32, output: u32, count: u32 }, 20);
-c_struct!(ConfirmAnswer { word: u32, mark: u32 }, 8);
-c_struct!(Vote { n: u32, need: u32, word: u32, count: u32 }, 16);
-c_struct!(VoteAnswer { word: u32, mark: u32 }, 8);
-c_struct!(Tuple { n: u32, need: u32, input: u32, output: u32, count: u32, agreed: u32, counts: [u32; 32] }, 152);
-c_struct!(TupleAnswer { word: u32, mark: u32, mask: u32 }, 12);
-c_struct!(Reserve { phase: u32, n: u32, need: u32, word: u32, count: u32 }, 20);
-c_struct!(ReserveAnswer { word: u32, mark: u32, pair: u32 }, 12);
-c_struct!(Sizing { count: u64, age: u64, quiet: u64 }, 24);
-c_struct!(Readings { x1: f64, x2: f64, x3: f64, tolerance: f64 }, 32);
-c_struct!(Header { units: u32, samples: u32, n: u32, need: u32, word: u32 }, 20);
+c_struct!(Confirm { n: u32, need: u32, input: u32, output: u32, count: u32 });
+c_struct!(ConfirmAnswer { word: u32, mark: u32 });
+c_struct!(Vote { n: u32, need: u32, word: u32, count: u32 });
+c_struct!(VoteAnswer { word: u32, mark: u32 });
+c_struct!(Tuple { n: u32, need: u32, input: u32, output: u32, count: u32, agreed: u32, counts: [u32; MAX_WIDTH] });
+c_struct!(TupleAnswer { word: u32, mark: u32, mask: u32 });
+c_struct!(Reserve { phase: u32, n: u32, need: u32, word: u32, count: u32 });
+c_struct!(ReserveAnswer { word: u32, mark: u32, pair: u32 });
+c_struct!(Sizing { count: u64, age: u64, quiet: u64 });
+c_struct!(Readings { x1: f64, x2: f64, x3: f64, tolerance: f64 });
+c_struct!(Header { units: u32, samples: u32, n: u32, need: u32, word: u32 });
 
 // A reference is passed as a pointer, a slice as a pointer and a length.
 type In = *const u32;
@@ -42,26 +68,31 @@ type Marks = *mut u8;
 
 #[link(name = "scorvemaglio", kind = "static")]
 extern "C" {
+    fn scorve_version() -> u32;
+    fn scorve_abi_1();
     fn scorve_confirm_from_word(state: &mut Confirm, n: u32, need: u32, word: u32) -> u32;
     fn scorve_confirm_new(state: &mut Confirm, n: u32, need: u32) -> u32;
     fn scorve_confirm_step(state: &mut Confirm, input: u32, answer: &mut ConfirmAnswer) -> u32;
-    fn scorve_confirm_run(n: u32, need: u32, word: u32, samples: In, samples_len: usize, words: Out, words_len: usize,
-        marks: Marks, marks_len: usize, counts: Out, counts_len: usize, sample: &mut u32) -> u32;
+    fn scorve_confirm_run(n: u32, need: u32, word: u32, samples: In, samples_len: usize,
+        words: Out, words_len: usize, marks: Marks, marks_len: usize, counts: Out, counts_len: usize,
+        sample: &mut u32) -> u32;
     fn scorve_vote_from_word(state: &mut Vote, n: u32, need: u32, word: u32) -> u32;
     fn scorve_vote_new(state: &mut Vote, n: u32, need: u32) -> u32;
     fn scorve_vote_step(state: &mut Vote, a: u32, b: u32, reset: u32, answer: &mut VoteAnswer) -> u32;
-    fn scorve_vote_run(n: u32, need: u32, word: u32, a: In, a_len: usize, b: In, b_len: usize, words: Out, words_len: usize,
-        marks: Marks, marks_len: usize, sample: &mut u32) -> u32;
+    fn scorve_vote_run(n: u32, need: u32, word: u32, a: In, a_len: usize, b: In, b_len: usize,
+        words: Out, words_len: usize, marks: Marks, marks_len: usize, sample: &mut u32) -> u32;
     fn scorve_tuple_from_word(state: &mut Tuple, n: u32, need: u32, word: u32) -> u32;
     fn scorve_tuple_new(state: &mut Tuple, n: u32, need: u32) -> u32;
     fn scorve_tuple_step(state: &mut Tuple, a: u32, b: u32, answer: &mut TupleAnswer) -> u32;
-    fn scorve_tuple_run(n: u32, need: u32, word: u32, a: In, a_len: usize, b: In, b_len: usize, words: Out, words_len: usize,
-        masks: Out, masks_len: usize, marks: Marks, marks_len: usize, sample: &mut u32) -> u32;
+    fn scorve_tuple_run(n: u32, need: u32, word: u32, a: In, a_len: usize, b: In, b_len: usize,
+        words: Out, words_len: usize, masks: Out, masks_len: usize, marks: Marks, marks_len: usize,
+        sample: &mut u32) -> u32;
     fn scorve_reserve_from_word(state: &mut Reserve, n: u32, need: u32, word: u32) -> u32;
     fn scorve_reserve_new(state: &mut Reserve, n: u32, need: u32) -> u32;
     fn scorve_reserve_step(state: &mut Reserve, a: u32, b: u32, c: u32, d: u32, answer: &mut ReserveAnswer) -> u32;
-    fn scorve_reserve_run(n: u32, need: u32, word: u32, a: In, a_len: usize, b: In, b_len: usize, c: In, c_len: usize,
-        d: In, d_len: usize, words: Out, words_len: usize, marks: Marks, marks_len: usize, sample: &mut u32) -> u32;
+    fn scorve_reserve_run(n: u32, need: u32, word: u32, a: In, a_len: usize, b: In, b_len: usize,
+        c: In, c_len: usize, d: In, d_len: usize,
+        words: Out, words_len: usize, marks: Marks, marks_len: usize, sample: &mut u32) -> u32;
     fn scorve_sizing_of(n: u32, least_gap: u32, greatest_gap: u32, delay: u32, sizing: &mut Sizing) -> u32;
     fn scorve_threshold_vote(readings: &Readings, agreed: &mut f64, mark: &mut u32) -> u32;
     fn scorve_recording_read(bytes: *const u8, bytes_len: usize, times: Out, times_len: usize, one: Out, one_len: usize,
@@ -69,6 +100,15 @@ extern "C" {
         header: &mut Header, sample: &mut u32) -> u32;
     fn scorve_listing_list(bytes: *const u8, bytes_len: usize, out: *mut u8, out_len: usize, written: &mut usize,
         refused: &mut u32) -> u32;
+}
+
+// A program with this wrapper in it does not link with an archive of another version.
+#[used]
+static ABI: unsafe extern "C" fn() = scorve_abi_1;
+
+/// The version of the archive.
+pub fn version() -> u32 {
+    unsafe { scorve_version() }
 }
 
 /// The value if the call was accepted, else the refusal's number.
@@ -126,43 +166,24 @@ impl Reserve {
     }
 }
 
-/// A run's `sample` is the number of the sample with refusal 6, else 0.
-pub fn confirm_run(n: u32, need: u32, word: u32, samples: &[u32], words: &mut [u32], marks: &mut [u8], counts: &mut [u32],
-                   sample: &mut u32) -> Result<(), u32> {
-    let refusal = unsafe {
-        scorve_confirm_run(n, need, word, samples.as_ptr(), samples.len(), words.as_mut_ptr(), words.len(),
-                           marks.as_mut_ptr(), marks.len(), counts.as_mut_ptr(), counts.len(), sample)
+// A run, the same for each voter: what it reads, and what it writes.
+macro_rules! run {
+    ($name:ident, $call:ident, [$($unit:ident),*], [$($output:ident: $kind:ty),*]) => {
+        /// A whole trace from a fresh state. `sample` is the number of the sample with refusal 6, else 0.
+        pub fn $name(n: u32, need: u32, word: u32, $($unit: &[u32],)* $($output: &mut [$kind],)* sample: &mut u32)
+            -> Result<(), u32> {
+            let refusal = unsafe {
+                $call(n, need, word, $($unit.as_ptr(), $unit.len(),)* $($output.as_mut_ptr(), $output.len(),)* sample)
+            };
+            accepted(refusal, ())
+        }
     };
-    accepted(refusal, ())
 }
 
-pub fn vote_run(n: u32, need: u32, word: u32, a: &[u32], b: &[u32], words: &mut [u32], marks: &mut [u8],
-                sample: &mut u32) -> Result<(), u32> {
-    let refusal = unsafe {
-        scorve_vote_run(n, need, word, a.as_ptr(), a.len(), b.as_ptr(), b.len(), words.as_mut_ptr(), words.len(),
-                        marks.as_mut_ptr(), marks.len(), sample)
-    };
-    accepted(refusal, ())
-}
-
-pub fn tuple_run(n: u32, need: u32, word: u32, a: &[u32], b: &[u32], words: &mut [u32], masks: &mut [u32], marks: &mut [u8],
-                 sample: &mut u32) -> Result<(), u32> {
-    let refusal = unsafe {
-        scorve_tuple_run(n, need, word, a.as_ptr(), a.len(), b.as_ptr(), b.len(), words.as_mut_ptr(), words.len(),
-                         masks.as_mut_ptr(), masks.len(), marks.as_mut_ptr(), marks.len(), sample)
-    };
-    accepted(refusal, ())
-}
-
-pub fn reserve_run(n: u32, need: u32, word: u32, units: [&[u32]; 4], words: &mut [u32], marks: &mut [u8],
-                   sample: &mut u32) -> Result<(), u32> {
-    let [a, b, c, d] = units;
-    let refusal = unsafe {
-        scorve_reserve_run(n, need, word, a.as_ptr(), a.len(), b.as_ptr(), b.len(), c.as_ptr(), c.len(),
-                           d.as_ptr(), d.len(), words.as_mut_ptr(), words.len(), marks.as_mut_ptr(), marks.len(), sample)
-    };
-    accepted(refusal, ())
-}
+run!(confirm_run, scorve_confirm_run, [samples], [words: u32, marks: u8, counts: u32]);
+run!(vote_run, scorve_vote_run, [a, b], [words: u32, marks: u8]);
+run!(tuple_run, scorve_tuple_run, [a, b], [words: u32, masks: u32, marks: u8]);
+run!(reserve_run, scorve_reserve_run, [a, b, c, d], [words: u32, marks: u8]);
 
 /// The count, the age bound and the quiet gap, from times in microseconds.
 pub fn sizing_of(n: u32, least_gap: u32, greatest_gap: u32, delay: u32) -> Result<Sizing, u32> {
@@ -183,22 +204,23 @@ pub fn recording_read(bytes: &[u8], slices: [&mut [u32]; 5], sample: &mut u32) -
     let [times, one, two, three, four] = slices;
     let refusal = unsafe {
         scorve_recording_read(bytes.as_ptr(), bytes.len(), times.as_mut_ptr(), times.len(), one.as_mut_ptr(), one.len(),
-                              two.as_mut_ptr(), two.len(), three.as_mut_ptr(), three.len(), four.as_mut_ptr(), four.len(),
-                              &mut header, sample)
+                              two.as_mut_ptr(), two.len(), three.as_mut_ptr(), three.len(),
+                              four.as_mut_ptr(), four.len(), &mut header, sample)
     };
     accepted(refusal, header)
 }
 
-/// Lists a recording into at least `LONGEST_LISTING` bytes: how many were written, and whether the text says that the recording
-/// is refused.
+/// Lists a recording into at least `LONGEST_LISTING` bytes: how many were written, and whether the text says that the
+/// recording is refused.
 pub fn listing_list(bytes: &[u8], out: &mut [u8]) -> Result<(usize, bool), u32> {
     let (mut written, mut refused) = (0, 0);
-    let refusal =
-        unsafe { scorve_listing_list(bytes.as_ptr(), bytes.len(), out.as_mut_ptr(), out.len(), &mut written, &mut refused) };
+    let refusal = unsafe {
+        scorve_listing_list(bytes.as_ptr(), bytes.len(), out.as_mut_ptr(), out.len(), &mut written, &mut refused)
+    };
     accepted(refusal, (written, refused != 0))
 }
 
-// Nothing compares the declarations above with the header, so each call is tried once: `rustc --test`.
+// Each call is tried once: `rustc --test`.
 #[cfg(test)]
 mod tests {
     use super::*;
@@ -231,7 +253,7 @@ mod tests {
         assert_eq!(vote.step(5, 7, false), Ok(VoteAnswer { word: 6, mark: HELD }));
         assert_eq!(vote, Vote { n: 3, need: 4, word: 6, count: 1 });
         assert_eq!(vote.step(5, 7, true).map(|_| vote.count), Ok(0));
-        let (mut tuple, mut counts) = (Tuple::from_word(4, 2, 6).unwrap(), [0; 32]);
+        let (mut tuple, mut counts) = (Tuple::from_word(4, 2, 6).unwrap(), [0; MAX_WIDTH]);
         assert_eq!(tuple.step(5, 7), Ok(TupleAnswer { word: 6, mark: HELD, mask: 0 }));
         assert_eq!(tuple.step(8, 10), Ok(TupleAnswer { word: 6, mark: ALARM, mask: 2 }));
         counts[1] = 1;
@@ -243,7 +265,7 @@ mod tests {
         let units = [[5, 5, 5, 5], [5, 7, 5, 4], [5, 7, 5, 4], [5, 7, 5, 4], [5, 7, 5, 4], [5, 7, 4, 4]];
         let (mut words, mut marks, mut sample) = ([9; 6], [9; 6], 9);
         let [a, b, c, d] = [0, 1, 2, 3].map(|unit| units.map(|row| row[unit]));
-        assert_eq!(reserve_run(3, 2, 0, [&a, &b, &c, &d], &mut words, &mut marks, &mut sample), Ok(()));
+        assert_eq!(reserve_run(3, 2, 0, &a, &b, &c, &d, &mut words, &mut marks, &mut sample), Ok(()));
         assert_eq!((words, marks, sample), ([5, 5, 5, 5, 5, 4], [0, 1, 2, 1, 1, 0], 0));
         assert_eq!((Reserve::new(0, 2), Reserve::from_word(3, 2, 8)), (Err(2), Err(5)));
         let mut state = Reserve { phase: 1, n: 3, need: 4, word: 5, count: 2 };
@@ -253,6 +275,7 @@ mod tests {
 
     #[test]
     fn others() {
+        assert_eq!(version(), VERSION);
         assert_eq!(sizing_of(3, 10, 12, 25), Ok(Sizing { count: 3, age: 133, quiet: 145 }));
         assert_eq!(threshold_vote(&Readings { x1: 0.0, x2: 0.5, x3: 1.0, tolerance: 0.5 }), Ok(Some(0.5)));
         assert_eq!(threshold_vote(&Readings { x1: 1.0, x2: 2.0, x3: 3.0, tolerance: 0.5 }), Ok(None));

@@ -5,20 +5,32 @@
  * Link with libscorvemaglio.a. Every function behind this header is proved to
  * meet its contract; docs/BOUNDARY.md says what is promised.
  *
- * Common to all calls
+ * What a call does
  *
- *   - A call returns 0, or the number of the refusal (enum scorve_refusal).
- *     A refused call writes nothing; only a run and the reader tell the number
- *     of the sample, in *sample, with every call: 0 except with
- *     SCORVE_BAD_SAMPLE.
- *   - Every value is checked: numbers, words, states. A state may come from
+ *   - It returns 0, or the number of the refusal (enum scorve_refusal); only
+ *     scorve_version tells something else. A refused call writes nothing, so a
+ *     refused step leaves *answer as it was: uninitialised, if it was. Only a run
+ *     and the reader tell the number of the sample, in *sample, with every call:
+ *     0 except with SCORVE_BAD_SAMPLE.
+ *   - An alarm is an answer and no error: the call returns 0, and the mark is
+ *     SCORVE_ALARM.
+ *   - It checks every value: numbers, words, states. A state may come from
  *     anywhere; a step refuses one that no step takes.
- *   - What cannot be checked is left to the caller: a pointer is valid for the
- *     places it stands for, also if their number is 0 (then it is not read, but
- *     it is not a null pointer), and no two places that are lent to one call
- *     overlap if one of them is written.
- *   - No call allocates, blocks, prints or keeps anything between calls, so
- *     calls on different states may run on different threads.
+ *   - It neither allocates, blocks nor prints, and keeps nothing between calls,
+ *     so calls on different states may run on different threads.
+ *   - The text of a listing has no terminating NUL; printf("%.*s", ..) prints it.
+ *
+ * What is left to the caller, as no call can check it
+ *
+ *   - The machine is x86-64, with the System V ABI, as Linux has it.
+ *   - A pointer is valid for the places it stands for and aligned for their
+ *     type, also if their number is 0 (then nothing is read, but it is not a
+ *     null pointer), and no two places that are lent to one call overlap if one
+ *     of them is written.
+ *   - The threshold vote computes with doubles: it needs round to nearest and
+ *     subnormals, no flush to zero. A program of gcc or clang starts so, unless
+ *     it was linked with -ffast-math.
+ *   - The program has a memset, which is all that the archive needs of it.
  *
  * A word is a tuple of n signals, signal i at bit i; n is 1 to 32, and the bits
  * at n and above are zero. need is the count N, 1 to 1,000. A trace has at most
@@ -31,9 +43,40 @@
 #include <stddef.h>
 #include <stdint.h>
 
+#if defined(__has_attribute)
+#if __has_attribute(retain)
+#define SCORVE_KEPT __attribute__((used, retain))
+#endif
+#endif
+#ifndef SCORVE_KEPT
+#define SCORVE_KEPT __attribute__((used))
+#endif
+
 #ifdef __cplusplus
 extern "C" {
 #endif
+
+/* The version of the ABI: one more with each landing after which a program that
+ * was right before may have to change; CHANGES.md says how. An object that was
+ * compiled with another number than the archive's does not link: the number is
+ * part of a name that every object with this header in it refers to. */
+#define SCORVE_VERSION 1
+
+/* The version of the archive, for those who do not compile this header. */
+uint32_t scorve_version(void);
+
+#define SCORVE_JOIN(name, number) name##number
+#define SCORVE_NAMED(name, number) SCORVE_JOIN(name, number)
+#define SCORVE_ABI SCORVE_NAMED(scorve_abi_, SCORVE_VERSION)
+
+/* Does nothing; the reference to it stays whatever else the linker takes out. */
+void SCORVE_ABI(void);
+static void (*const scorve_abi)(void) SCORVE_KEPT = SCORVE_ABI;
+
+#undef SCORVE_ABI
+#undef SCORVE_NAMED
+#undef SCORVE_JOIN
+#undef SCORVE_KEPT
 
 #define SCORVE_MAX_WIDTH 32      /* n, the signals of a word */
 #define SCORVE_MAX_COUNT 1000    /* need */
@@ -128,7 +171,7 @@ uint32_t scorve_vote_run(uint32_t n, uint32_t need, uint32_t word,
 typedef struct scorve_tuple {
   uint32_t n, need, input, output, count; /* the confirmation's */
   uint32_t agreed;                        /* the voters' agreed signals, one word */
-  uint32_t counts[32];                    /* the voters' counts; 0 at n and above */
+  uint32_t counts[SCORVE_MAX_WIDTH];      /* the voters' counts; 0 at n and above */
 } scorve_tuple;
 
 typedef struct scorve_tuple_answer {
@@ -222,26 +265,32 @@ uint32_t scorve_listing_list(const uint8_t *bytes, size_t bytes_len,
 }
 #endif
 
-/* The library sees each struct as an array. */
+/* The library sees each struct as an array of so many numbers; in a tuple's state the counts are the last of them. */
 #if defined(__cplusplus) && __cplusplus >= 201103L
-#define SCORVE_LAYOUT(type, bytes) static_assert(sizeof(type) == (bytes), #type " has padding")
+#define SCORVE_CHECK(name, test) static_assert(test, #name " is not what the library takes it for")
 #elif defined(__STDC_VERSION__) && __STDC_VERSION__ >= 201112L
-#define SCORVE_LAYOUT(type, bytes) _Static_assert(sizeof(type) == (bytes), #type " has padding")
+#define SCORVE_CHECK(name, test) _Static_assert(test, #name " is not what the library takes it for")
 #else
-#define SCORVE_LAYOUT(type, bytes) typedef char type##_has_no_padding[sizeof(type) == (bytes) ? 1 : -1]
+#define SCORVE_CHECK(name, test) typedef char name##_is_as_the_library_has_it[(test) ? 1 : -1]
 #endif
+#define SCORVE_ARRAY(type, number, count) SCORVE_CHECK(type, sizeof(type) == (count) * sizeof(number))
+#define SCORVE_COUNTS_AT 6
 
-SCORVE_LAYOUT(scorve_confirm, 20);
-SCORVE_LAYOUT(scorve_confirm_answer, 8);
-SCORVE_LAYOUT(scorve_vote, 16);
-SCORVE_LAYOUT(scorve_vote_answer, 8);
-SCORVE_LAYOUT(scorve_tuple, 152);
-SCORVE_LAYOUT(scorve_tuple_answer, 12);
-SCORVE_LAYOUT(scorve_reserve, 20);
-SCORVE_LAYOUT(scorve_reserve_answer, 12);
-SCORVE_LAYOUT(scorve_sizing, 24);
-SCORVE_LAYOUT(scorve_readings, 32);
-SCORVE_LAYOUT(scorve_header, 20);
-#undef SCORVE_LAYOUT
+SCORVE_ARRAY(scorve_confirm, uint32_t, 5);
+SCORVE_ARRAY(scorve_confirm_answer, uint32_t, 2);
+SCORVE_ARRAY(scorve_vote, uint32_t, 4);
+SCORVE_ARRAY(scorve_vote_answer, uint32_t, 2);
+SCORVE_ARRAY(scorve_tuple, uint32_t, SCORVE_COUNTS_AT + SCORVE_MAX_WIDTH);
+SCORVE_CHECK(scorve_tuple_counts, offsetof(scorve_tuple, counts) == SCORVE_COUNTS_AT * sizeof(uint32_t));
+SCORVE_ARRAY(scorve_tuple_answer, uint32_t, 3);
+SCORVE_ARRAY(scorve_reserve, uint32_t, 5);
+SCORVE_ARRAY(scorve_reserve_answer, uint32_t, 3);
+SCORVE_ARRAY(scorve_sizing, uint64_t, 3);
+SCORVE_ARRAY(scorve_readings, double, 4);
+SCORVE_ARRAY(scorve_header, uint32_t, 5);
+
+#undef SCORVE_COUNTS_AT
+#undef SCORVE_ARRAY
+#undef SCORVE_CHECK
 
 #endif
