@@ -116,7 +116,7 @@ static double time_batch(const struct row *row, const struct side *side, size_t 
   const double start = nanoseconds();
   for (size_t i = 0; i < calls; i++) row->call(side, &inputs[i % TRACES], &plain_out);
   const double end = nanoseconds();
-  sink = plain_out.returned[0] + plain_out.words[SAMPLES - 1] + plain_out.text[0];
+  sink = plain_out.returned[0] + plain_out.run[0].words[SAMPLES - 1] + plain_out.text[0];
   return (end - start) / (double)calls;
 }
 

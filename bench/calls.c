@@ -14,35 +14,37 @@ const struct side library_side = {
   scorve_threshold_vote, scorve_recording_read, scorve_listing_list,
 };
 
+/* A slice as a run takes it: its place and its length. */
+#define IN(k) in->unit[k], SAMPLES
+#define WORDS(k) out->run[k].words, SAMPLES
+#define BYTES(k) out->run[k].bytes, SAMPLES
+
 void call_confirm_run(const struct side *side, const struct inputs *in, struct outputs *out)
 {
-  out->returned[0] = side->confirm_run(in->n, in->need, in->word, in->unit[0], SAMPLES,
-                                       out->words, SAMPLES, out->marks, SAMPLES, out->others, SAMPLES, &out->sample);
+  out->returned[0] = side->confirm_run(in->n, in->need, in->word, IN(0), WORDS(0), BYTES(1), WORDS(2), &out->sample);
 }
 
 void call_vote_run(const struct side *side, const struct inputs *in, struct outputs *out)
 {
-  out->returned[0] = side->vote_run(in->n, in->need, in->word, in->unit[0], SAMPLES, in->unit[1], SAMPLES,
-                                    out->words, SAMPLES, out->marks, SAMPLES, &out->sample);
+  out->returned[0] = side->vote_run(in->n, in->need, in->word, IN(0), IN(1), WORDS(0), BYTES(1), &out->sample);
 }
 
 void call_tuple_run(const struct side *side, const struct inputs *in, struct outputs *out)
 {
-  out->returned[0] = side->tuple_run(in->n, in->need, in->word, in->unit[0], SAMPLES, in->unit[1], SAMPLES,
-                                     out->words, SAMPLES, out->others, SAMPLES, out->marks, SAMPLES, &out->sample);
+  out->returned[0] = side->tuple_run(in->n, in->need, in->word, IN(0), IN(1), WORDS(0), WORDS(1), BYTES(2),
+                                     &out->sample);
 }
 
 void call_reserve_run(const struct side *side, const struct inputs *in, struct outputs *out)
 {
-  out->returned[0] = side->reserve_run(in->n, in->need, in->word, in->unit[0], SAMPLES, in->unit[1], SAMPLES,
-                                       in->unit[2], SAMPLES, in->unit[3], SAMPLES,
-                                       out->words, SAMPLES, out->marks, SAMPLES, &out->sample);
+  out->returned[0] = side->reserve_run(in->n, in->need, in->word, IN(0), IN(1), IN(2), IN(3), WORDS(0), BYTES(1),
+                                       &out->sample);
 }
 
 void call_confirm_steps(const struct side *side, const struct inputs *in, struct outputs *out)
 {
   __typeof__(side->confirm_step) step = side->confirm_step;
-  out->confirm = (scorve_confirm){in->n, in->need, in->word, in->word, 0};
+  out->confirm = (scorve_confirm){.n = in->n, .need = in->need, .input = in->word, .output = in->word};
   for (size_t i = 0; i < SAMPLES; i++) {
     out->returned[i] = step(&out->confirm, in->unit[0][i], &out->confirm_answers[i]);
   }
@@ -51,7 +53,7 @@ void call_confirm_steps(const struct side *side, const struct inputs *in, struct
 void call_vote_steps(const struct side *side, const struct inputs *in, struct outputs *out)
 {
   __typeof__(side->vote_step) step = side->vote_step;
-  out->vote = (scorve_vote){in->n, in->need, in->word, 0};
+  out->vote = (scorve_vote){.n = in->n, .need = in->need, .word = in->word};
   for (size_t i = 0; i < SAMPLES; i++) {
     /* a reset now and then; unit 3 only gives the chance */
     const uint32_t reset = (in->unit[2][i] & 7) == 7;
@@ -62,7 +64,7 @@ void call_vote_steps(const struct side *side, const struct inputs *in, struct ou
 void call_tuple_steps(const struct side *side, const struct inputs *in, struct outputs *out)
 {
   __typeof__(side->tuple_step) step = side->tuple_step;
-  out->tuple = (scorve_tuple){in->n, in->need, in->word, in->word, 0, in->word, {0}};
+  out->tuple = (scorve_tuple){.n = in->n, .need = in->need, .input = in->word, .output = in->word, .agreed = in->word};
   for (size_t i = 0; i < SAMPLES; i++) {
     out->returned[i] = step(&out->tuple, in->unit[0][i], in->unit[1][i], &out->tuple_answers[i]);
   }
@@ -71,7 +73,7 @@ void call_tuple_steps(const struct side *side, const struct inputs *in, struct o
 void call_reserve_steps(const struct side *side, const struct inputs *in, struct outputs *out)
 {
   __typeof__(side->reserve_step) step = side->reserve_step;
-  out->reserve = (scorve_reserve){SCORVE_PRIMARY, in->n, in->need, in->word, 0};
+  out->reserve = (scorve_reserve){.phase = SCORVE_PRIMARY, .n = in->n, .need = in->need, .word = in->word};
   for (size_t i = 0; i < SAMPLES; i++) {
     out->returned[i] = step(&out->reserve, in->unit[0][i], in->unit[1][i], in->unit[2][i], in->unit[3][i],
                             &out->reserve_answers[i]);

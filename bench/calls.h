@@ -6,6 +6,8 @@
 
 #define SAMPLES SCORVE_MAX_SAMPLES
 
+enum { UNITS = 4, COLUMNS = 1 + UNITS, RUN_OUTPUTS = 4 };
+
 /* One side's functions; taken from the header, so that both sides have its signatures. */
 struct side {
   __typeof__(scorve_confirm_run) *confirm_run;
@@ -25,19 +27,23 @@ extern const struct side plain_side, library_side;
 
 struct inputs {
   uint32_t n, need, word;
-  uint32_t unit[4][SAMPLES];
+  uint32_t unit[UNITS][SAMPLES];
   scorve_readings readings[SAMPLES];
   uint8_t recording[SCORVE_LONGEST_RECORDING];
   size_t recording_len;
+};
+
+/* What a run writes for each sample: words or bytes. */
+union run_output {
+  uint32_t words[SAMPLES];
+  uint8_t bytes[SAMPLES];
 };
 
 /* Every place that any call writes, and what it returned. */
 struct outputs {
   uint32_t returned[SAMPLES]; /* a run has one return value, steps have one each */
   uint32_t sample;
-  uint32_t words[SAMPLES];
-  uint32_t others[SAMPLES]; /* counts or masks */
-  uint8_t marks[SAMPLES];
+  union run_output run[RUN_OUTPUTS]; /* in the order of the run's arguments */
   scorve_confirm confirm;
   scorve_vote vote;
   scorve_tuple tuple;
@@ -49,7 +55,7 @@ struct outputs {
   double agreed[SAMPLES];
   uint32_t agreed_marks[SAMPLES];
   scorve_header header;
-  uint32_t columns[5][SAMPLES];
+  uint32_t columns[COLUMNS][SAMPLES];
   uint8_t text[SCORVE_LONGEST_LISTING];
   size_t written;
   uint32_t refused;

@@ -1,4 +1,5 @@
-/* What the plain C files share: the limits, and the clauses of the voters for one sample that has been checked. */
+/* What the plain C files share: the limits, a fresh tuple vote, and the clauses of the voters for one sample that has
+ * been checked. */
 #ifndef CLAUSES_H
 #define CLAUSES_H
 
@@ -7,7 +8,7 @@
 /* The bits at n and above, for n 1 to 32. */
 static inline uint32_t outside(uint32_t n)
 {
-  return n < 32 ? ~UINT32_C(0) << n : 0;
+  return n < SCORVE_MAX_WIDTH ? ~UINT32_C(0) << n : 0;
 }
 
 static inline uint32_t check_limits(uint32_t n, uint32_t need)
@@ -50,6 +51,11 @@ static inline uint32_t vote(uint32_t need, uint32_t *agreed, uint32_t *count, ui
     return SCORVE_HELD;
   }
   return SCORVE_ALARM;
+}
+
+static inline scorve_tuple fresh_tuple(uint32_t n, uint32_t need, uint32_t word)
+{
+  return (scorve_tuple){.n = n, .need = need, .input = word, .output = word, .agreed = word};
 }
 
 /* Every signal's vote takes a step; the mask of alarms is returned. */

@@ -141,7 +141,7 @@ uint32_t plain_tuple_run(uint32_t n, uint32_t need, uint32_t word,
   uint32_t refusal = check_run(n, need, word, longer(a_len, b_len), same);
   if (!refusal) refusal = check_samples(n, a, b, a, b, a_len, sample);
   if (refusal) return refusal;
-  scorve_tuple state = {n, need, word, word, 0, word, {0}};
+  scorve_tuple state = fresh_tuple(n, need, word);
   for (size_t i = 0; i < a_len; i++) {
     marks[i] = (uint8_t)tuple_vote(&state, a[i], b[i], &masks[i]);
     words[i] = state.output;

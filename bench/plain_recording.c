@@ -165,8 +165,7 @@ static uint8_t *put_confirm(uint8_t *at, const uint8_t *bytes, const scorve_head
 static uint8_t *put_pair(uint8_t *at, const uint8_t *bytes, const scorve_header *header)
 {
   const uint8_t *a = column(bytes, header->samples, 1), *b = column(bytes, header->samples, 2);
-  const uint32_t word = header->word;
-  scorve_tuple state = {header->n, header->need, word, word, 0, word, {0}};
+  scorve_tuple state = fresh_tuple(header->n, header->need, header->word);
   at = put_first_line(at, "pair ", header);
   for (uint32_t i = 0; i < header->samples; i++) {
     uint32_t mask;
