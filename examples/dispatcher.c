@@ -1,6 +1,7 @@
 /* A lift dispatcher's cycle. Two units read the same three signals, each on its own clock, so for a while one shows a
  * change that the other has not seen yet. The tuple vote tells such a while from a fault: the dispatcher acts on the
- * confirmed word, and holds the car at an alarm. Build: cc -Iinclude examples/dispatcher.c libscorvemaglio.a */
+ * confirmed word, and holds the car at an alarm.
+ * Build: cc -Iinclude examples/dispatcher.c target/staticlib/libscorvemaglio.a */
 #include <stdio.h>
 
 #include "scorvemaglio.h"
@@ -16,16 +17,16 @@ enum signal { KEY_TURNED = 1, DOORS_CLOSED = 2, RESERVED = 4 };
 
 /* What the units show in each cycle; a real dispatcher reads them here. */
 static const struct { uint32_t unit_1, unit_2; } shown[] = {
-  {0, 0}, {1, 0}, {1, 1}, {1, 1}, {1, 1}, {1, 1},         /* the key is turned; unit 1 sees it first */
-  {3, 1}, {3, 1}, {3, 3}, {3, 3}, {3, 3}, {3, 3},         /* the doors close */
-  {3, 7}, {3, 7}, {3, 7}, {3, 7}, {3, 3}, {3, 3}, {3, 3}, /* unit 2 shows a reservation that unit 1 never sees */
-  {3, 8}, {3, 3},                                         /* unit 2 shows a signal that is not there */
+  {4, 4}, {5, 4}, {5, 5}, {5, 5}, {5, 5}, {5, 5},         /* a reserved car; its key is turned, unit 1 sees it first */
+  {7, 5}, {7, 5}, {7, 7}, {7, 7}, {7, 7}, {7, 7},         /* the doors close */
+  {7, 3}, {7, 3}, {7, 3}, {7, 3}, {7, 7}, {7, 7}, {7, 7}, /* unit 2 loses the reservation, unit 1 does not */
+  {7, 8}, {7, 7},                                         /* unit 2 shows a signal that is not there */
 };
 #define CYCLES (sizeof shown / sizeof *shown)
 
-/* The count that the vote needs follows from the clocks, with a gap added to the delay: two sound units may disagree at as
- * many samples as the count for the delay alone, and the vote alarms at the last of them. Two changes of one signal must lie
- * further apart than the quiet gap. Returns 0 if the times are refused. */
+/* The count that the vote needs follows from the clocks, with a gap added to the delay: two sound units may disagree at
+ * as many samples as the count for the delay alone, and the vote alarms at the last of them. Two changes of one signal
+ * must lie further apart than the quiet gap. Returns 0 if the times are refused. */
 static uint32_t count_for_the_clocks(void)
 {
   scorve_sizing sizing;
@@ -38,6 +39,21 @@ static uint32_t count_for_the_clocks(void)
   return (uint32_t)sizing.count; /* at most SCORVE_MAX_COUNT */
 }
 
+/* The fresh state is made from the word that the units show while the car rests: from another one, the vote would show
+ * a word that never was. Returns 0 if that cannot be. */
+static int start(scorve_tuple *vote, uint32_t count, uint32_t unit_1, uint32_t unit_2)
+{
+  uint32_t refusal;
+  if (unit_1 != unit_2) {
+    fprintf(stderr, "the units show %u and %u: wait until the car rests\n", (unsigned)unit_1, (unsigned)unit_2);
+    return 0;
+  }
+  refusal = scorve_tuple_from_word(vote, SIGNALS, count, unit_1);
+  if (refusal != SCORVE_OK)
+    fprintf(stderr, "the vote is refused with %u\n", (unsigned)refusal);
+  return refusal == SCORVE_OK;
+}
+
 /* What the car may do by a confirmed word. */
 static const char *order_for(uint32_t word)
 {
@@ -45,7 +61,8 @@ static const char *order_for(uint32_t word)
   return (word & both) == both ? "run the car" : "wait at the floor";
 }
 
-/* One cycle. An alarm ends by itself when the units agree again; a dispatcher that wants it to last has to remember it. */
+/* One cycle. An alarm ends by itself when the units agree again; a dispatcher that wants it to last has to remember
+ * it. */
 static void cycle(scorve_tuple *vote, uint32_t unit_1, uint32_t unit_2)
 {
   scorve_tuple_answer answer;
@@ -62,15 +79,10 @@ static void cycle(scorve_tuple *vote, uint32_t unit_1, uint32_t unit_2)
 int main(void)
 {
   scorve_tuple vote;
-  uint32_t refusal, count = count_for_the_clocks();
+  uint32_t count = count_for_the_clocks();
   size_t i;
-  if (count == 0)
+  if (count == 0 || !start(&vote, count, shown[0].unit_1, shown[0].unit_2))
     return 1;
-  refusal = scorve_tuple_new(&vote, SIGNALS, count);
-  if (refusal != SCORVE_OK) {
-    fprintf(stderr, "the vote is refused with %u\n", (unsigned)refusal);
-    return 1;
-  }
   for (i = 0; i < CYCLES; i++) {
     printf("cycle %2u, units %u and %u: ", (unsigned)i, (unsigned)shown[i].unit_1, (unsigned)shown[i].unit_2);
     cycle(&vote, shown[i].unit_1, shown[i].unit_2);

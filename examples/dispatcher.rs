@@ -1,5 +1,6 @@
-//! The dispatcher's cycle of dispatcher.c through the safe wrapper; it prints the same text. A call's refusal is an `Err`, so `?`
-//! and `match` handle it.
+//! The dispatcher's cycle of dispatcher.c through the safe wrapper; it prints the same text. A call's refusal is an
+//! `Err`, so `?` and `match` handle it.
+//! Build: rustc --edition 2021 -L target/staticlib examples/dispatcher.rs
 mod scorvemaglio;
 
 use scorvemaglio::{sizing_of, Tuple, ALARM, CONFIRMED};
@@ -16,10 +17,10 @@ const GREATEST_DELAY: u32 = 15_000;
 
 // What the two units show in each cycle; a real dispatcher reads them here.
 const SHOWN: [(u32, u32); 21] = [
-    (0, 0), (1, 0), (1, 1), (1, 1), (1, 1), (1, 1),         // the key is turned; unit 1 sees it first
-    (3, 1), (3, 1), (3, 3), (3, 3), (3, 3), (3, 3),         // the doors close
-    (3, 7), (3, 7), (3, 7), (3, 7), (3, 3), (3, 3), (3, 3), // unit 2 shows a reservation that unit 1 never sees
-    (3, 8), (3, 3),                                         // unit 2 shows a signal that is not there
+    (4, 4), (5, 4), (5, 5), (5, 5), (5, 5), (5, 5),         // a reserved car; its key is turned, unit 1 sees it first
+    (7, 5), (7, 5), (7, 7), (7, 7), (7, 7), (7, 7),         // the doors close
+    (7, 3), (7, 3), (7, 3), (7, 3), (7, 7), (7, 7), (7, 7), // unit 2 loses the reservation, unit 1 does not
+    (7, 8), (7, 7),                                         // unit 2 shows a signal that is not there
 ];
 
 /// What the car may do by a confirmed word.
@@ -47,7 +48,10 @@ fn main() -> Result<(), u32> {
     // A gap is added to the delay, lest sound units alarm: dispatcher.c says why.
     let sizing = sizing_of(SIGNALS, LEAST_GAP, GREATEST_GAP, GREATEST_DELAY + LEAST_GAP)?;
     println!("count {}, quiet gap {} us", sizing.count, sizing.quiet);
-    let mut vote = Tuple::new(SIGNALS, sizing.count as u32)?;
+    // The fresh state is made from the word that both units show while the car rests: dispatcher.c says why.
+    let (rest, same) = SHOWN[0];
+    assert_eq!(rest, same, "wait until the car rests");
+    let mut vote = Tuple::from_word(SIGNALS, sizing.count as u32, rest)?;
     for (i, (unit_1, unit_2)) in SHOWN.into_iter().enumerate() {
         println!("cycle {i:2}, units {unit_1} and {unit_2}: {}", cycle(&mut vote, unit_1, unit_2));
     }

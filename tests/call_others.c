@@ -46,34 +46,25 @@ void threshold(line *in)
   put(bits);
 }
 
-static void put_header(const scorve_header *header)
-{
-  put(header->units);
-  put(header->samples);
-  put(header->n);
-  put(header->need);
-  put(header->word);
-}
-
 void recording_read(line *in)
 {
-  static const scorve_header after_refusal = {0, 0, 0, 0, 0};
+  static const scorve_header after_refusal = {.units = 0};
   bytes recording = byte_list(in);
-  words slices[5];
+  slice slices[COLUMNS];
   scorve_header header;
   uint32_t sample, refusal;
   size_t i;
-  for (i = 0; i < 5; i++)
-    slices[i] = lent_words(in);
+  for (i = 0; i < COLUMNS; i++)
+    slices[i] = lent_slice(in, sizeof(uint32_t));
   end_of_line(in);
   make_dirty(&header, sizeof header);
   make_dirty(&sample, sizeof sample);
   refusal = guarded_recording_read(recording, slices, &header, &sample);
   begin_answer(refusal);
   put(sample);
-  put_header(refusal == SCORVE_OK ? &header : &after_refusal);
-  for (i = 0; i < 5; i++)
-    put_words(slices[i]);
+  put_numbers(refusal == SCORVE_OK ? &header : &after_refusal, sizeof header);
+  for (i = 0; i < COLUMNS; i++)
+    put_slice(slices[i]);
 }
 
 void listing(line *in)

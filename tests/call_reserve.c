@@ -1,31 +1,11 @@
 /* The calls of the reserve vote. */
 #include "lines.h"
 
-static void put_state(const scorve_reserve *state)
-{
-  put(state->phase);
-  put(state->n);
-  put(state->need);
-  put(state->word);
-  put(state->count);
-}
-
-static scorve_reserve take_state(line *in)
-{
-  scorve_reserve state;
-  state.phase = number(in);
-  state.n = number(in);
-  state.need = number(in);
-  state.word = number(in);
-  state.count = number(in);
-  return state;
-}
-
 static void answer_made(uint32_t refusal, const scorve_reserve *state)
 {
-  static const scorve_reserve after_refusal = {SCORVE_PRIMARY, 1, 1, 0, 0};
+  static const scorve_reserve after_refusal = {.phase = SCORVE_PRIMARY, .n = 1, .need = 1};
   begin_answer(refusal);
-  put_state(refusal == SCORVE_OK ? state : &after_refusal);
+  put_numbers(refusal == SCORVE_OK ? state : &after_refusal, sizeof *state);
 }
 
 void reserve_new(line *in)
@@ -48,12 +28,11 @@ void reserve_from_word(line *in)
 
 void reserve_step(line *in)
 {
-  scorve_reserve state = take_state(in);
-  uint32_t units[4], refusal;
+  scorve_reserve state;
   scorve_reserve_answer answer;
-  size_t i;
-  for (i = 0; i < 4; i++)
-    units[i] = number(in);
+  uint32_t units[UNITS], refusal;
+  take_numbers(in, &state, sizeof state);
+  take_numbers(in, units, sizeof units);
   end_of_line(in);
   make_dirty(&answer, sizeof answer);
   refusal = guarded_reserve_step(&state, units, &answer);
@@ -61,23 +40,10 @@ void reserve_step(line *in)
   put(refusal == SCORVE_OK ? answer.word : 0);
   put(refusal == SCORVE_OK ? answer.mark : NO_MARK);
   put(refusal == SCORVE_OK ? answer.pair : 0);
-  put_state(&state);
+  put_numbers(&state, sizeof state);
 }
 
 void reserve_run(line *in)
 {
-  uint32_t n = number(in), need = number(in), word = number(in), sample;
-  words units[4], shown;
-  bytes marks;
-  size_t i;
-  for (i = 0; i < 4; i++)
-    units[i] = word_list(in);
-  shown = lent_words(in);
-  marks = lent_bytes(in);
-  end_of_line(in);
-  make_dirty(&sample, sizeof sample);
-  begin_answer(guarded_reserve_run(n, need, word, units, shown, marks, &sample));
-  put(sample);
-  put_words(shown);
-  put_bytes(marks);
+  answer_run(in, &voters[RESERVE]);
 }

@@ -1,19 +1,11 @@
 /* The calls of the vote of two words. */
 #include "lines.h"
 
-static void put_state(const scorve_vote *state)
-{
-  put(state->n);
-  put(state->need);
-  put(state->word);
-  put(state->count);
-}
-
 static void answer_made(uint32_t refusal, const scorve_vote *state)
 {
-  static const scorve_vote after_refusal = {1, 1, 0, 0};
+  static const scorve_vote after_refusal = {.n = 1, .need = 1};
   begin_answer(refusal);
-  put_state(refusal == SCORVE_OK ? state : &after_refusal);
+  put_numbers(refusal == SCORVE_OK ? state : &after_refusal, sizeof *state);
 }
 
 void vote_new(line *in)
@@ -39,10 +31,7 @@ void vote_step(line *in)
   scorve_vote state;
   scorve_vote_answer answer;
   uint32_t a, b, reset, refusal;
-  state.n = number(in);
-  state.need = number(in);
-  state.word = number(in);
-  state.count = number(in);
+  take_numbers(in, &state, sizeof state);
   a = number(in);
   b = number(in);
   reset = number(in);
@@ -52,19 +41,10 @@ void vote_step(line *in)
   begin_answer(refusal);
   put(refusal == SCORVE_OK ? answer.word : 0);
   put(refusal == SCORVE_OK ? answer.mark : NO_MARK);
-  put_state(&state);
+  put_numbers(&state, sizeof state);
 }
 
 void vote_run(line *in)
 {
-  uint32_t n = number(in), need = number(in), word = number(in);
-  words a = word_list(in), b = word_list(in), shown = lent_words(in);
-  bytes marks = lent_bytes(in);
-  uint32_t sample;
-  end_of_line(in);
-  make_dirty(&sample, sizeof sample);
-  begin_answer(guarded_vote_run(n, need, word, a, b, shown, marks, &sample));
-  put(sample);
-  put_words(shown);
-  put_bytes(marks);
+  answer_run(in, &voters[VOTE]);
 }

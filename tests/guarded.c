@@ -1,25 +1,6 @@
-/* The twenty functions of the boundary, each made on lent copies of its places, which settle() then checks. */
+/* The functions of the boundary that can refuse, but the runs, each made on lent copies of its places, which settle()
+ * then checks. */
 #include "tests.h"
-
-static const uint32_t *read_words(const char *name, words slice)
-{
-  return lend_to_read(name, slice.at, slice.length * sizeof *slice.at);
-}
-
-static const uint8_t *read_bytes(const char *name, bytes slice)
-{
-  return lend_to_read(name, slice.at, slice.length);
-}
-
-static uint32_t *write_words(const char *name, words slice)
-{
-  return lend(name, slice.at, slice.length * sizeof *slice.at);
-}
-
-static uint8_t *write_bytes(const char *name, bytes slice)
-{
-  return lend(name, slice.at, slice.length);
-}
 
 uint32_t guarded_confirm_from_word(scorve_confirm *state, uint32_t n, uint32_t need, uint32_t word)
 {
@@ -36,18 +17,6 @@ uint32_t guarded_confirm_step(scorve_confirm *state, uint32_t input, scorve_conf
   uint32_t refusal = scorve_confirm_step(lend("state", state, sizeof *state), input,
                                          lend("answer", answer, sizeof *answer));
   return settle("confirm_step", refusal);
-}
-
-uint32_t guarded_confirm_run(uint32_t n, uint32_t need, uint32_t word, words samples,
-                             words shown, bytes marks, words counts, uint32_t *sample)
-{
-  uint32_t refusal = scorve_confirm_run(n, need, word,
-                                        read_words("samples", samples), samples.length,
-                                        write_words("words", shown), shown.length,
-                                        write_bytes("marks", marks), marks.length,
-                                        write_words("counts", counts), counts.length,
-                                        lend_sample(sample));
-  return settle("confirm_run", refusal);
 }
 
 uint32_t guarded_vote_from_word(scorve_vote *state, uint32_t n, uint32_t need, uint32_t word)
@@ -67,18 +36,6 @@ uint32_t guarded_vote_step(scorve_vote *state, uint32_t a, uint32_t b, uint32_t 
   return settle("vote_step", refusal);
 }
 
-uint32_t guarded_vote_run(uint32_t n, uint32_t need, uint32_t word, words a, words b,
-                          words shown, bytes marks, uint32_t *sample)
-{
-  uint32_t refusal = scorve_vote_run(n, need, word,
-                                     read_words("a", a), a.length,
-                                     read_words("b", b), b.length,
-                                     write_words("words", shown), shown.length,
-                                     write_bytes("marks", marks), marks.length,
-                                     lend_sample(sample));
-  return settle("vote_run", refusal);
-}
-
 uint32_t guarded_tuple_from_word(scorve_tuple *state, uint32_t n, uint32_t need, uint32_t word)
 {
   return settle("tuple_from_word", scorve_tuple_from_word(lend("state", state, sizeof *state), n, need, word));
@@ -96,19 +53,6 @@ uint32_t guarded_tuple_step(scorve_tuple *state, uint32_t a, uint32_t b, scorve_
   return settle("tuple_step", refusal);
 }
 
-uint32_t guarded_tuple_run(uint32_t n, uint32_t need, uint32_t word, words a, words b,
-                           words shown, words masks, bytes marks, uint32_t *sample)
-{
-  uint32_t refusal = scorve_tuple_run(n, need, word,
-                                      read_words("a", a), a.length,
-                                      read_words("b", b), b.length,
-                                      write_words("words", shown), shown.length,
-                                      write_words("masks", masks), masks.length,
-                                      write_bytes("marks", marks), marks.length,
-                                      lend_sample(sample));
-  return settle("tuple_run", refusal);
-}
-
 uint32_t guarded_reserve_from_word(scorve_reserve *state, uint32_t n, uint32_t need, uint32_t word)
 {
   return settle("reserve_from_word", scorve_reserve_from_word(lend("state", state, sizeof *state), n, need, word));
@@ -119,25 +63,11 @@ uint32_t guarded_reserve_new(scorve_reserve *state, uint32_t n, uint32_t need)
   return settle("reserve_new", scorve_reserve_new(lend("state", state, sizeof *state), n, need));
 }
 
-uint32_t guarded_reserve_step(scorve_reserve *state, const uint32_t units[4], scorve_reserve_answer *answer)
+uint32_t guarded_reserve_step(scorve_reserve *state, const uint32_t units[UNITS], scorve_reserve_answer *answer)
 {
   uint32_t refusal = scorve_reserve_step(lend("state", state, sizeof *state), units[0], units[1], units[2], units[3],
                                          lend("answer", answer, sizeof *answer));
   return settle("reserve_step", refusal);
-}
-
-uint32_t guarded_reserve_run(uint32_t n, uint32_t need, uint32_t word, const words units[4],
-                             words shown, bytes marks, uint32_t *sample)
-{
-  uint32_t refusal = scorve_reserve_run(n, need, word,
-                                        read_words("a", units[0]), units[0].length,
-                                        read_words("b", units[1]), units[1].length,
-                                        read_words("c", units[2]), units[2].length,
-                                        read_words("d", units[3]), units[3].length,
-                                        write_words("words", shown), shown.length,
-                                        write_bytes("marks", marks), marks.length,
-                                        lend_sample(sample));
-  return settle("reserve_run", refusal);
 }
 
 uint32_t guarded_sizing_of(uint32_t n, uint32_t least_gap, uint32_t greatest_gap, uint32_t delay,
@@ -154,22 +84,22 @@ uint32_t guarded_threshold_vote(const scorve_readings *readings, double *agreed,
   return settle("threshold_vote", refusal);
 }
 
-uint32_t guarded_recording_read(bytes recording, const words slices[5], scorve_header *header, uint32_t *sample)
+uint32_t guarded_recording_read(bytes recording, const slice slices[COLUMNS], scorve_header *header, uint32_t *sample)
 {
-  uint32_t refusal = scorve_recording_read(read_bytes("bytes", recording), recording.length,
-                                           write_words("times", slices[0]), slices[0].length,
-                                           write_words("one", slices[1]), slices[1].length,
-                                           write_words("two", slices[2]), slices[2].length,
-                                           write_words("three", slices[3]), slices[3].length,
-                                           write_words("four", slices[4]), slices[4].length,
+  uint32_t refusal = scorve_recording_read(lend_to_read("bytes", recording.at, recording.length), recording.length,
+                                           lend_slice("times", slices[0]), slices[0].length,
+                                           lend_slice("one", slices[1]), slices[1].length,
+                                           lend_slice("two", slices[2]), slices[2].length,
+                                           lend_slice("three", slices[3]), slices[3].length,
+                                           lend_slice("four", slices[4]), slices[4].length,
                                            lend("header", header, sizeof *header), lend_sample(sample));
   return settle("recording_read", refusal);
 }
 
 uint32_t guarded_listing_list(bytes recording, bytes out, size_t *written, uint32_t *refused)
 {
-  uint32_t refusal = scorve_listing_list(read_bytes("bytes", recording), recording.length,
-                                         write_bytes("out", out), out.length,
+  uint32_t refusal = scorve_listing_list(lend_to_read("bytes", recording.at, recording.length), recording.length,
+                                         lend("out", out.at, out.length), out.length,
                                          lend("written", written, sizeof *written),
                                          lend("refused", refused, sizeof *refused));
   return settle("listing_list", refusal);

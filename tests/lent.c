@@ -89,6 +89,21 @@ void *lend(const char *name, void *owner, size_t size)
   return lend_place(name, owner, owner, size, 1);
 }
 
+const uint32_t *lend_words(const char *name, words list)
+{
+  return lend_to_read(name, list.at, list.length * sizeof *list.at);
+}
+
+void *lend_slice(const char *name, slice owner)
+{
+  return lend(name, owner.at, owner.length * owner.size);
+}
+
+uint32_t element(slice s, size_t i)
+{
+  return s.size == sizeof(uint8_t) ? ((const uint8_t *)s.at)[i] : ((const uint32_t *)s.at)[i];
+}
+
 /* The one place that a refused call writes too. */
 uint32_t *lend_sample(uint32_t *owner)
 {

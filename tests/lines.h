@@ -2,7 +2,7 @@
 #ifndef LINES_H
 #define LINES_H
 
-#include "tests.h"
+#include "traces.h"
 
 /* What is still to be read of a call line. */
 typedef struct line {
@@ -17,8 +17,8 @@ uint64_t number_up_to(line *in, uint64_t greatest);
 uint32_t number(line *in);
 words word_list(line *in);
 bytes byte_list(line *in);
-words lent_words(line *in);
-bytes lent_bytes(line *in);
+slice lent_slice(line *in, size_t size);
+void take_numbers(line *in, void *state, size_t size);
 void end_of_line(const line *in);
 void forget_slices(void);
 
@@ -27,10 +27,13 @@ void forget_slices(void);
 /* print.c: an answer line, part by part. */
 void begin_answer(uint32_t refusal);
 void put(uint64_t value);
-void put_words(words slice);
-void put_bytes(bytes slice);
+void put_slice(slice s);
+void put_numbers(const void *state, size_t size);
 void put_text(bytes text);
 void end_answer(void);
+
+/* call_run.c: a run of any voter. */
+void answer_run(line *in, const voter *v);
 
 /* The calls: each reads its arguments, makes the call and prints the answer. */
 void confirm_new(line *in);

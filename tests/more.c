@@ -1,12 +1,11 @@
 /* What the stored calls cannot hold: damages combined, numbers that fit no line, lengths at their limits, random
- * traces step by step. Prints `N checks, M bad` and ends with 1 if one is bad. With the argument "exact" the places
- * stand without guards in blocks of their size, for valgrind. */
+ * traces step by step. Prints `N checks, M bad` and ends with 1 if one is bad.
+ *   more guarded FUNCTION..   the functions that have to be met, accepted and refused: all that can refuse
+ *   more exact FUNCTION..     the places stand without guards in blocks of their size, for valgrind */
 #include <stdio.h>
 #include <string.h>
 
 #include "more.h"
-
-#define FUNCTIONS 20 /* of the boundary */
 
 /* A fixed sequence (xorshift), so that a bad check comes again. */
 uint32_t chance(void)
@@ -65,8 +64,10 @@ int main(int argc, char **argv)
   more_recordings();
   more_listings();
   more_numbers();
+  checking("version", 0);
+  check(scorve_version() == SCORVE_VERSION, "the archive says %lu", (unsigned long)scorve_version());
   checking("functions", 0);
-  check_all_functions_were_met(FUNCTIONS);
+  check_functions_were_met(argv + 2, argc > 2 ? (size_t)argc - 2 : 0);
   printf("%lu checks, %lu bad\n", checks_made(), bad_checks());
   return bad_checks() > 0;
 }

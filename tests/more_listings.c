@@ -101,12 +101,13 @@ static void longest_listings(void)
 static uint32_t read_alone(bytes recording, uint32_t *sample)
 {
   static uint32_t places[COLUMNS][SCORVE_MAX_SAMPLES];
-  words slices[COLUMNS];
+  slice slices[COLUMNS];
   scorve_header header;
   size_t i;
   for (i = 0; i < COLUMNS; i++) {
     slices[i].at = places[i];
     slices[i].length = SCORVE_MAX_SAMPLES;
+    slices[i].size = sizeof **places;
   }
   make_dirty(&header, sizeof header);
   make_dirty(sample, sizeof *sample);

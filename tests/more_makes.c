@@ -3,6 +3,8 @@
 
 #include "more.h"
 
+#define DEFAULT_WORD 0 /* of a constructor that takes none */
+
 static const uint32_t widths[] = {0, 1, 2, 31, 32, 33, 256 + 1, 65536 + 1, UINT32_MAX};
 static const uint32_t needs[] = {0, 1, 2, 999, 1000, 1001, 65536 + 1, UINT32_MAX};
 static const uint32_t initials[] = {0, 1, 2, 3, 0x40000000, 0x80000000, UINT32_MAX};
@@ -22,44 +24,72 @@ static void check_made(const char *voter, uint32_t given, uint32_t expected, con
     check(memcmp(state, fresh, size) == 0, "%s: not the fresh state", voter);
 }
 
+static scorve_confirm fresh_confirm(uint32_t n, uint32_t need, uint32_t word)
+{
+  scorve_confirm state = {.n = n, .need = need, .input = word, .output = word};
+  return state;
+}
+
 static void make_confirm(uint32_t n, uint32_t need, uint32_t word)
 {
-  scorve_confirm state, fresh = {n, need, word, word, 0}, zero = {n, need, 0, 0, 0};
+  scorve_confirm state, fresh = fresh_confirm(n, need, word), usual = fresh_confirm(n, need, DEFAULT_WORD);
   make_dirty(&state, sizeof state);
   check_made("confirm", guarded_confirm_from_word(&state, n, need, word), refusal_of(n, need, word), &state, &fresh,
              sizeof state);
   make_dirty(&state, sizeof state);
-  check_made("confirm", guarded_confirm_new(&state, n, need), refusal_of(n, need, 0), &state, &zero, sizeof state);
+  check_made("confirm", guarded_confirm_new(&state, n, need), refusal_of(n, need, DEFAULT_WORD), &state, &usual,
+             sizeof state);
+}
+
+static scorve_vote fresh_vote(uint32_t n, uint32_t need, uint32_t word)
+{
+  scorve_vote state = {.n = n, .need = need, .word = word};
+  return state;
 }
 
 static void make_vote(uint32_t n, uint32_t need, uint32_t word)
 {
-  scorve_vote state, fresh = {n, need, word, 0}, zero = {n, need, 0, 0};
+  scorve_vote state, fresh = fresh_vote(n, need, word), usual = fresh_vote(n, need, DEFAULT_WORD);
   make_dirty(&state, sizeof state);
   check_made("vote", guarded_vote_from_word(&state, n, need, word), refusal_of(n, need, word), &state, &fresh,
              sizeof state);
   make_dirty(&state, sizeof state);
-  check_made("vote", guarded_vote_new(&state, n, need), refusal_of(n, need, 0), &state, &zero, sizeof state);
+  check_made("vote", guarded_vote_new(&state, n, need), refusal_of(n, need, DEFAULT_WORD), &state, &usual,
+             sizeof state);
+}
+
+static scorve_tuple fresh_tuple(uint32_t n, uint32_t need, uint32_t word)
+{
+  scorve_tuple state = {.n = n, .need = need, .input = word, .output = word, .agreed = word};
+  return state;
 }
 
 static void make_tuple(uint32_t n, uint32_t need, uint32_t word)
 {
-  scorve_tuple state, fresh = {n, need, word, word, 0, word, {0}}, zero = {n, need, 0, 0, 0, 0, {0}};
+  scorve_tuple state, fresh = fresh_tuple(n, need, word), usual = fresh_tuple(n, need, DEFAULT_WORD);
   make_dirty(&state, sizeof state);
   check_made("tuple", guarded_tuple_from_word(&state, n, need, word), refusal_of(n, need, word), &state, &fresh,
              sizeof state);
   make_dirty(&state, sizeof state);
-  check_made("tuple", guarded_tuple_new(&state, n, need), refusal_of(n, need, 0), &state, &zero, sizeof state);
+  check_made("tuple", guarded_tuple_new(&state, n, need), refusal_of(n, need, DEFAULT_WORD), &state, &usual,
+             sizeof state);
+}
+
+static scorve_reserve fresh_reserve(uint32_t n, uint32_t need, uint32_t word)
+{
+  scorve_reserve state = {.phase = SCORVE_PRIMARY, .n = n, .need = need, .word = word};
+  return state;
 }
 
 static void make_reserve(uint32_t n, uint32_t need, uint32_t word)
 {
-  scorve_reserve state, fresh = {SCORVE_PRIMARY, n, need, word, 0}, zero = {SCORVE_PRIMARY, n, need, 0, 0};
+  scorve_reserve state, fresh = fresh_reserve(n, need, word), usual = fresh_reserve(n, need, DEFAULT_WORD);
   make_dirty(&state, sizeof state);
   check_made("reserve", guarded_reserve_from_word(&state, n, need, word), refusal_of(n, need, word), &state, &fresh,
              sizeof state);
   make_dirty(&state, sizeof state);
-  check_made("reserve", guarded_reserve_new(&state, n, need), refusal_of(n, need, 0), &state, &zero, sizeof state);
+  check_made("reserve", guarded_reserve_new(&state, n, need), refusal_of(n, need, DEFAULT_WORD), &state, &usual,
+             sizeof state);
 }
 
 void more_makes(void)

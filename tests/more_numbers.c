@@ -106,7 +106,8 @@ static void thresholds(void)
   }
 }
 
-/* The logic has one NaN, so the contract does not tell the bits of a lent one: they stay, with an alarm and with a refusal. */
+/* The logic has one NaN, so the contract does not tell the bits of a lent one: they stay, with an alarm and with a
+ * refusal. */
 static void lent_nan(void)
 {
   static const scorve_readings unagreed[] = {{1.0, 2.0, 3.0, 0.5}, {NAN, 2.0, 3.0, 0.5}};

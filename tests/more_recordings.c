@@ -7,7 +7,7 @@
 #define PLACES (SCORVE_MAX_SAMPLES + 1)
 
 static uint32_t places[COLUMNS][PLACES];
-static words slices[COLUMNS];
+static slice slices[COLUMNS];
 static const scorve_header small = {2, 5, 3, 2, 7};
 
 static void renew_slices(void)
@@ -17,6 +17,7 @@ static void renew_slices(void)
   for (i = 0; i < COLUMNS; i++) {
     slices[i].at = places[i];
     slices[i].length = SCORVE_MAX_SAMPLES;
+    slices[i].size = sizeof **places;
   }
 }
 

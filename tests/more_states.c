@@ -26,7 +26,7 @@ static scorve_tuple state_by_chance(void)
 /* One of twelve damages; some do no harm to some states, which the rule then says too. */
 static void damage(scorve_tuple *state, uint32_t *a, uint32_t *b)
 {
-  uint32_t high = 1u << chance_below(32);
+  uint32_t high = 1u << chance_below(SCORVE_MAX_WIDTH);
   switch (chance_below(12)) {
   case 0: state->need = 0; break;
   case 1: state->need = SCORVE_MAX_COUNT + 1; break;
@@ -38,8 +38,8 @@ static void damage(scorve_tuple *state, uint32_t *a, uint32_t *b)
   case 7: state->output |= high; break;
   case 8: state->agreed |= high; break;
   case 9: state->count = state->need; break;
-  case 10: state->counts[chance_below(32)] = state->need; break;
-  default: state->counts[chance_below(32)] = 1; break;
+  case 10: state->counts[chance_below(SCORVE_MAX_WIDTH)] = state->need; break;
+  default: state->counts[chance_below(SCORVE_MAX_WIDTH)] = 1; break;
   }
 }
 
@@ -100,7 +100,7 @@ static uint32_t signal_clauses(scorve_tuple *state, uint32_t a, uint32_t b, size
 /* An alarm leaves the confirmation as it is. */
 static scorve_tuple_answer tuple_clauses(scorve_tuple *state, uint32_t a, uint32_t b)
 {
-  scorve_tuple_answer answer = {0, SCORVE_ALARM, 0};
+  scorve_tuple_answer answer = {.mark = SCORVE_ALARM};
   size_t i;
   for (i = 0; i < state->n; i++)
     answer.mask |= signal_clauses(state, a, b, i);
@@ -113,7 +113,8 @@ static scorve_tuple_answer tuple_clauses(scorve_tuple *state, uint32_t a, uint32
 static void check_confirm(const scorve_tuple *before, uint32_t input)
 {
   scorve_tuple expected = *before;
-  scorve_confirm state = {before->n, before->need, before->input, before->output, before->count};
+  scorve_confirm state = {.n = before->n, .need = before->need, .input = before->input, .output = before->output,
+                          .count = before->count};
   scorve_confirm_answer answer;
   uint32_t refusal, mark;
   make_dirty(&answer, sizeof answer);
@@ -140,9 +141,8 @@ static void check_tuple(const scorve_tuple *before, uint32_t a, uint32_t b)
   if (refusal != SCORVE_OK || tuple_refusal(before, a | b) != SCORVE_OK)
     return;
   expected = tuple_clauses(&after, a, b);
-  check(answer.word == expected.word && answer.mark == expected.mark && answer.mask == expected.mask,
-        "tuple_step: word %lu, mark %lu, mask %lu", (unsigned long)answer.word, (unsigned long)answer.mark,
-        (unsigned long)answer.mask);
+  check(memcmp(&answer, &expected, sizeof answer) == 0, "tuple_step: word %lu, mark %lu, mask %lu",
+        (unsigned long)answer.word, (unsigned long)answer.mark, (unsigned long)answer.mask);
   check(memcmp(&state, &after, sizeof state) == 0, "tuple_step: another state");
 }
 

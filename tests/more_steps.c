@@ -81,18 +81,24 @@ static uint32_t next_phase(uint32_t phase, uint32_t mark)
   return SCORVE_RESERVE;
 }
 
-/* A phase above 2 is number 7, where no lower one applies. */
-static uint32_t reserve_refusal(const scorve_reserve *state, const uint32_t units[4])
+static scorve_vote vote_of(const scorve_reserve *state)
 {
-  scorve_vote vote = {state->n, state->need, state->word, state->count};
+  scorve_vote vote = {.n = state->n, .need = state->need, .word = state->word, .count = state->count};
+  return vote;
+}
+
+/* A phase above 2 is number 7, where no lower one applies. */
+static uint32_t reserve_refusal(const scorve_reserve *state, const uint32_t units[UNITS])
+{
+  scorve_vote vote = vote_of(state);
   uint32_t refusal = step_refusal(&vote, units[0] | units[1] | units[2] | units[3]);
   return refusal == SCORVE_OK && state->phase > SCORVE_RESERVE ? (uint32_t)SCORVE_BAD_STATE : refusal;
 }
 
-static void check_reserve_taken(const scorve_reserve *before, const uint32_t units[4], const scorve_reserve *state,
+static void check_reserve_taken(const scorve_reserve *before, const uint32_t units[UNITS], const scorve_reserve *state,
                                 const scorve_reserve_answer *answer)
 {
-  scorve_vote vote = {before->n, before->need, before->word, before->count};
+  scorve_vote vote = vote_of(before);
   size_t first = before->phase == SCORVE_PRIMARY ? 0 : 2;
   uint32_t mark = vote_clauses(&vote, units[first], units[first + 1], before->phase == SCORVE_TAKING_OVER);
   check(answer->word == vote.word && answer->mark == mark && answer->pair == first / 2 + 1,
@@ -103,7 +109,7 @@ static void check_reserve_taken(const scorve_reserve *before, const uint32_t uni
         (unsigned long)state->phase);
 }
 
-static void check_reserve(const scorve_reserve *before, const uint32_t units[4])
+static void check_reserve(const scorve_reserve *before, const uint32_t units[UNITS])
 {
   scorve_reserve state = *before;
   scorve_reserve_answer answer;
@@ -122,7 +128,7 @@ static void reserve_phases(void)
   static const uint32_t phases[] = {0, 1, 2, 3, 4, 5, 255, 256, 257, 65536, 65538, 0x80000001, UINT32_MAX};
   static const uint32_t widths[] = {0, 3, 32, 33}, needs[] = {0, 1, 3, 1001}, counts[] = {0, 1, 2, 3, UINT32_MAX};
   static const uint32_t values[] = {0, 5, 8}, rows[] = {0, 1, 2, 3, 4, 5, 6, 7, 8};
-  static const uint32_t units[][4] = {
+  static const uint32_t units[][UNITS] = {
     {5, 5, 5, 5}, {5, 7, 5, 4}, {5, 7, 4, 4}, {4, 4, 5, 7}, {8, 0, 0, 0}, {0, 8, 0, 0}, {0, 0, 8, 0}, {0, 0, 0, 8},
     {UINT32_MAX, 0, UINT32_MAX, UINT32_MAX},
   };

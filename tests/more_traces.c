@@ -1,44 +1,50 @@
 /* Runs of all four voters: lengths at their limits, empty traces, refusals, and random traces taken step by step. */
 #include <string.h>
 
+#include "more.h"
 #include "traces.h"
 
 #define PLACES (SCORVE_MAX_SAMPLES + 2)
 #define ROUNDS 120
 
-static uint32_t unit_places[UNITS][PLACES], shown_places[PLACES], third_places[PLACES];
-static uint8_t mark_places[PLACES];
+static uint32_t unit_places[UNITS][PLACES], output_places[OUTPUTS][PLACES];
+
+static void set_lengths(trace *t, size_t units, size_t outputs)
+{
+  size_t k;
+  for (k = 0; k < UNITS; k++)
+    t->units[k].length = units;
+  for (k = 0; k < OUTPUTS; k++)
+    t->outputs[k].length = outputs;
+}
 
 /* A trace of zeros, all slices of this length. */
-static trace quiet_trace(size_t length)
+static trace quiet_trace(const voter *v, size_t length)
 {
-  trace t = {3, 2, 0, 0, {{NULL, 0}}, {NULL, 0}, {NULL, 0}, {NULL, 0}};
-  size_t i;
-  for (i = 0; i < UNITS; i++) {
-    t.units[i].at = unit_places[i];
-    t.units[i].length = length;
-  }
+  trace t = {.n = 3, .need = 2};
+  size_t k;
   memset(unit_places, 0, sizeof unit_places);
-  t.shown.at = shown_places;
-  t.third.at = third_places;
-  t.marks.at = mark_places;
-  t.shown.length = t.third.length = t.marks.length = length;
+  for (k = 0; k < UNITS; k++)
+    t.units[k].at = unit_places[k];
+  for (k = 0; k < OUTPUTS; k++) {
+    t.outputs[k].at = output_places[k];
+    t.outputs[k].size = v->outputs[k].size;
+  }
+  set_lengths(&t, length, length);
   return t;
 }
 
 static void check_run(const voter *v, trace *t, uint32_t expected, uint32_t sample)
 {
   uint32_t refusal;
-  make_dirty(shown_places, sizeof shown_places);
-  make_dirty(third_places, sizeof third_places);
-  make_dirty(mark_places, sizeof mark_places);
+  make_dirty(output_places, sizeof output_places);
   make_dirty(&t->sample, sizeof t->sample);
-  refusal = v->run(t);
+  refusal = guarded_run(v, t);
   check(refusal == expected, "%s: a run of %lu samples refused with %lu, not %lu", v->name,
         (unsigned long)t->units[0].length, (unsigned long)refusal, (unsigned long)expected);
   check(t->sample == sample, "%s: sample %lu, not %lu", v->name, (unsigned long)t->sample, (unsigned long)sample);
   if (refusal == SCORVE_OK && expected == SCORVE_OK)
-    v->check_steps(t);
+    v->check_steps(v, t);
 }
 
 /* An empty trace is accepted, 2,048 samples too, 2,049 are not. */
@@ -47,7 +53,7 @@ static void limits_of_length(const voter *v)
   static const size_t lengths[] = {0, 1, 2047, 2048, 2049};
   size_t i;
   for (i = 0; i < sizeof lengths / sizeof *lengths; i++) {
-    trace t = quiet_trace(lengths[i]);
+    trace t = quiet_trace(v, lengths[i]);
     check_run(v, &t, lengths[i] > SCORVE_MAX_SAMPLES ? SCORVE_TOO_LONG : SCORVE_OK, 0);
   }
 }
@@ -55,7 +61,7 @@ static void limits_of_length(const voter *v)
 /* An empty trace does not hide a bad argument. */
 static void damaged_empty_trace(const voter *v)
 {
-  trace t = quiet_trace(0);
+  trace t = quiet_trace(v, 0);
   t.word = 8;
   check_run(v, &t, SCORVE_BAD_WORD, 0);
   t.n = 33;
@@ -64,45 +70,41 @@ static void damaged_empty_trace(const voter *v)
   check_run(v, &t, SCORVE_BAD_COUNT, 0);
 }
 
-/* The length of a voter's slice: the units come first, then words, marks and the third. */
-static size_t *length_of(const voter *v, trace *t, size_t slice)
+/* The units come first. */
+static size_t *length_of(const voter *v, trace *t, size_t k)
 {
-  if (slice < v->units)
-    return &t->units[slice].length;
-  if (slice == v->units)
-    return &t->shown.length;
-  return slice == v->units + 1 ? &t->marks.length : &t->third.length;
+  return k < v->units ? &t->units[k].length : &t->outputs[k - v->units].length;
 }
 
-static void check_other_length(const voter *v, size_t slice, size_t length, size_t other)
+static void check_other_length(const voter *v, size_t k, size_t length, size_t other)
 {
-  trace t = quiet_trace(length);
-  int too_long = slice < v->units && other > SCORVE_MAX_SAMPLES;
-  *length_of(v, &t, slice) = other;
+  trace t = quiet_trace(v, length);
+  int too_long = k < v->units && other > SCORVE_MAX_SAMPLES;
+  *length_of(v, &t, k) = other;
   check_run(v, &t, too_long ? SCORVE_TOO_LONG : SCORVE_BAD_LENGTH, 0);
 }
 
 /* Each slice in turn is longer or shorter than the others, or empty, or alone not empty. */
 static void one_slice_of_another_length(const voter *v)
 {
-  size_t slice, slices = v->units + 2 + (size_t)v->has_third;
-  for (slice = 0; slice < slices; slice++) {
-    check_other_length(v, slice, 5, 6);
-    check_other_length(v, slice, 5, 4);
-    check_other_length(v, slice, 5, 0);
-    check_other_length(v, slice, 0, 1);
-    check_other_length(v, slice, SCORVE_MAX_SAMPLES, SCORVE_MAX_SAMPLES + 1);
-    check_other_length(v, slice, SCORVE_MAX_SAMPLES, SCORVE_MAX_SAMPLES - 1);
+  size_t k;
+  for (k = 0; k < v->units + outputs_of(v); k++) {
+    check_other_length(v, k, 5, 6);
+    check_other_length(v, k, 5, 4);
+    check_other_length(v, k, 5, 0);
+    check_other_length(v, k, 0, 1);
+    check_other_length(v, k, SCORVE_MAX_SAMPLES, SCORVE_MAX_SAMPLES + 1);
+    check_other_length(v, k, SCORVE_MAX_SAMPLES, SCORVE_MAX_SAMPLES - 1);
   }
 }
 
 /* Everything is damaged, and mended one by one: the lowest number is given each time. */
 static void damages_mended_one_by_one(const voter *v)
 {
-  trace t = quiet_trace(SCORVE_MAX_SAMPLES + 1);
+  trace t = quiet_trace(v, SCORVE_MAX_SAMPLES + 1);
   t.need = 0;
   t.n = 33;
-  t.marks.length = 5;
+  t.outputs[v->marks].length = 5;
   t.word = 8;
   unit_places[v->units - 1][3] = 8;
   check_run(v, &t, SCORVE_BAD_COUNT, 0);
@@ -110,9 +112,9 @@ static void damages_mended_one_by_one(const voter *v)
   check_run(v, &t, SCORVE_BAD_WIDTH, 0);
   t.n = 3;
   check_run(v, &t, SCORVE_TOO_LONG, 0);
-  t.units[0].length = t.units[1].length = t.units[2].length = t.units[3].length = 7;
+  set_lengths(&t, 7, 5);
   check_run(v, &t, SCORVE_BAD_LENGTH, 0);
-  t.shown.length = t.marks.length = t.third.length = 7;
+  set_lengths(&t, 7, 7);
   check_run(v, &t, SCORVE_BAD_WORD, 0);
   t.word = 7;
   check_run(v, &t, SCORVE_BAD_SAMPLE, 3);
@@ -127,7 +129,7 @@ static void samples_outside(const voter *v)
   size_t i;
   for (i = 0; i < sizeof numbers / sizeof *numbers * v->units; i++) {
     uint32_t smallest = numbers[i / v->units];
-    trace t = quiet_trace(SCORVE_MAX_SAMPLES);
+    trace t = quiet_trace(v, SCORVE_MAX_SAMPLES);
     unit_places[i % v->units][smallest] = 0x80000000;
     unit_places[(i + 1) % v->units][SCORVE_MAX_SAMPLES - 1] = 8;
     check_run(v, &t, SCORVE_BAD_SAMPLE, smallest);
@@ -145,9 +147,9 @@ static void others_by_chance(size_t i, uint32_t n)
 }
 
 /* The first unit changes now and then. */
-static trace trace_by_chance(size_t length)
+static trace trace_by_chance(const voter *v, size_t length)
 {
-  trace t = quiet_trace(length);
+  trace t = quiet_trace(v, length);
   size_t i;
   t.n = chance_below(2) == 0 ? 1 + chance_below(3) : 1 + chance_below(32);
   t.need = chance_below(8) == 0 ? 1 + chance_below(1000) : 1 + chance_below(3);
@@ -159,11 +161,11 @@ static trace trace_by_chance(size_t length)
   return t;
 }
 
-static void count_marks(bytes marks, unsigned long seen[])
+static void count_marks(slice marks, unsigned long seen[])
 {
   size_t i;
   for (i = 0; i < marks.length; i++)
-    seen[marks.at[i] % (SCORVE_ALARM + 1)]++;
+    seen[element(marks, i) % (SCORVE_ALARM + 1)]++;
 }
 
 /* A run equals its steps; every mark was shown, so the comparison was not empty. */
@@ -172,10 +174,10 @@ static void runs_equal_their_steps(const voter *v)
   unsigned long seen[SCORVE_ALARM + 1] = {0};
   size_t round, i;
   for (round = 0; round < ROUNDS; round++) {
-    trace t = trace_by_chance(round == 0 ? SCORVE_MAX_SAMPLES : chance_below(60));
+    trace t = trace_by_chance(v, round == 0 ? SCORVE_MAX_SAMPLES : chance_below(60));
     checking(v->name, (unsigned long)round);
     check_run(v, &t, SCORVE_OK, 0);
-    count_marks(t.marks, seen);
+    count_marks(t.outputs[v->marks], seen);
   }
   for (i = 0; i <= v->greatest_mark; i++)
     check(seen[i] > 0, "%s: mark %lu was never shown", v->name, (unsigned long)i);

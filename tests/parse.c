@@ -94,13 +94,13 @@ static words elements(line *in, uint32_t greatest)
 
 static bytes narrow(words wide)
 {
-  bytes slice;
+  bytes list;
   size_t i;
-  slice.length = wide.length;
-  slice.at = keep(slice.length);
-  for (i = 0; i < slice.length; i++)
-    slice.at[i] = (uint8_t)wide.at[i];
-  return slice;
+  list.length = wide.length;
+  list.at = keep(list.length);
+  for (i = 0; i < list.length; i++)
+    list.at[i] = (uint8_t)wide.at[i];
+  return list;
 }
 
 words word_list(line *in)
@@ -113,22 +113,27 @@ bytes byte_list(line *in)
   return narrow(elements(in, UINT8_MAX));
 }
 
-words lent_words(line *in)
+/* All elements, bytes or words, have one value. */
+slice lent_slice(line *in, size_t size)
 {
-  words slice;
-  slice.length = number(in);
-  slice.at = keep(slice.length * sizeof *slice.at);
-  fill(slice.at, slice.length, number(in));
-  return slice;
+  slice lent;
+  lent.size = size;
+  lent.length = number(in);
+  lent.at = keep(lent.length * size);
+  if (size == sizeof(uint8_t))
+    memset(lent.at, (int)number_up_to(in, UINT8_MAX), lent.length);
+  else
+    fill(lent.at, lent.length, number(in));
+  return lent;
 }
 
-bytes lent_bytes(line *in)
+/* A state is numbers, in the order of the header's fields. */
+void take_numbers(line *in, void *state, size_t size)
 {
-  bytes slice;
-  slice.length = number(in);
-  slice.at = keep(slice.length);
-  memset(slice.at, (int)number_up_to(in, UINT8_MAX), slice.length);
-  return slice;
+  uint32_t *place = state;
+  size_t i;
+  for (i = 0; i < size / sizeof *place; i++)
+    place[i] = number(in);
 }
 
 void end_of_line(const line *in)

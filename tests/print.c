@@ -27,28 +27,25 @@ static void put_run(uint32_t value, size_t times)
 }
 
 /* The number of places, then the elements in the longest runs of equal ones. */
-void put_words(words slice)
+void put_slice(slice s)
 {
   size_t i, start = 0;
-  put(slice.length);
-  for (i = 1; i <= slice.length; i++) {
-    if (i == slice.length || slice.at[i] != slice.at[start]) {
-      put_run(slice.at[start], i - start);
+  put(s.length);
+  for (i = 1; i <= s.length; i++) {
+    if (i == s.length || element(s, i) != element(s, start)) {
+      put_run(element(s, start), i - start);
       start = i;
     }
   }
 }
 
-void put_bytes(bytes slice)
+/* A state or a header: its numbers, in the order of its fields. */
+void put_numbers(const void *state, size_t size)
 {
-  size_t i, start = 0;
-  put(slice.length);
-  for (i = 1; i <= slice.length; i++) {
-    if (i == slice.length || slice.at[i] != slice.at[start]) {
-      put_run(slice.at[start], i - start);
-      start = i;
-    }
-  }
+  const uint32_t *place = state;
+  size_t i;
+  for (i = 0; i < size / sizeof *place; i++)
+    put(place[i]);
 }
 
 /* The number of bytes, then the text with a bar for each newline. */

@@ -4,7 +4,6 @@
 
 #include "more.h"
 
-#define COLUMNS 5        /* the times and four units */
 #define HEADER_BYTES 44
 #define UNITS_AT 4       /* offsets in the header */
 #define SAMPLES_AT 8

@@ -10,19 +10,9 @@ void check(int good, const char *what, ...);
 unsigned long checks_made(void);
 unsigned long bad_checks(void);
 void note_call(const char *function, uint32_t refusal);
-void check_all_functions_were_met(size_t functions);
+void check_functions_were_met(char *const names[], size_t count);
 
-/* lent.c: what is lent to a call is a copy in memory of its own, between guard bytes. */
-void lend_exactly(void);
-void *allocate(size_t size);
-void make_dirty(void *place, size_t size);
-int is_dirty(const void *place, size_t size);
-const void *lend_to_read(const char *name, const void *owner, size_t size);
-void *lend(const char *name, void *owner, size_t size);
-uint32_t *lend_sample(uint32_t *owner);
-uint32_t settle(const char *function, uint32_t refusal);
-
-/* A slice as it is lent to a call. */
+/* What a call reads: words or bytes. */
 typedef struct words {
   uint32_t *at;
   size_t length;
@@ -33,35 +23,45 @@ typedef struct bytes {
   size_t length;
 } bytes;
 
-/* guarded.c: each function of the boundary, made on lent copies; the same arguments and the same answer. */
-uint32_t guarded_confirm_from_word(scorve_confirm *state, uint32_t n, uint32_t need, uint32_t word);
-uint32_t guarded_confirm_new(scorve_confirm *state, uint32_t n, uint32_t need);
-uint32_t guarded_confirm_step(scorve_confirm *state, uint32_t input, scorve_confirm_answer *answer);
-uint32_t guarded_confirm_run(uint32_t n, uint32_t need, uint32_t word, words samples,
-                             words shown, bytes marks, words counts, uint32_t *sample);
+/* What a call is lent to write: elements of one byte or of one word. */
+typedef struct slice {
+  void *at;
+  size_t length, size; /* size: of one element */
+} slice;
 
-uint32_t guarded_vote_from_word(scorve_vote *state, uint32_t n, uint32_t need, uint32_t word);
-uint32_t guarded_vote_new(scorve_vote *state, uint32_t n, uint32_t need);
-uint32_t guarded_vote_step(scorve_vote *state, uint32_t a, uint32_t b, uint32_t reset, scorve_vote_answer *answer);
-uint32_t guarded_vote_run(uint32_t n, uint32_t need, uint32_t word, words a, words b,
-                          words shown, bytes marks, uint32_t *sample);
+/* lent.c: what is lent to a call is a copy in memory of its own, between guard bytes. */
+void lend_exactly(void);
+void *allocate(size_t size);
+void make_dirty(void *place, size_t size);
+int is_dirty(const void *place, size_t size);
+const void *lend_to_read(const char *name, const void *owner, size_t size);
+const uint32_t *lend_words(const char *name, words list);
+void *lend(const char *name, void *owner, size_t size);
+void *lend_slice(const char *name, slice owner);
+uint32_t element(slice s, size_t i);
+uint32_t *lend_sample(uint32_t *owner);
+uint32_t settle(const char *function, uint32_t refusal);
 
-uint32_t guarded_tuple_from_word(scorve_tuple *state, uint32_t n, uint32_t need, uint32_t word);
-uint32_t guarded_tuple_new(scorve_tuple *state, uint32_t n, uint32_t need);
-uint32_t guarded_tuple_step(scorve_tuple *state, uint32_t a, uint32_t b, scorve_tuple_answer *answer);
-uint32_t guarded_tuple_run(uint32_t n, uint32_t need, uint32_t word, words a, words b,
-                           words shown, words masks, bytes marks, uint32_t *sample);
+#define UNITS 4   /* the most that a call reads */
+#define COLUMNS 5 /* of a recording: the times and the units */
 
-uint32_t guarded_reserve_from_word(scorve_reserve *state, uint32_t n, uint32_t need, uint32_t word);
-uint32_t guarded_reserve_new(scorve_reserve *state, uint32_t n, uint32_t need);
-uint32_t guarded_reserve_step(scorve_reserve *state, const uint32_t units[4], scorve_reserve_answer *answer);
-uint32_t guarded_reserve_run(uint32_t n, uint32_t need, uint32_t word, const words units[4],
-                             words shown, bytes marks, uint32_t *sample);
-
-uint32_t guarded_sizing_of(uint32_t n, uint32_t least_gap, uint32_t greatest_gap, uint32_t delay,
-                           scorve_sizing *sizing);
-uint32_t guarded_threshold_vote(const scorve_readings *readings, double *agreed, uint32_t *mark);
-uint32_t guarded_recording_read(bytes recording, const words slices[5], scorve_header *header, uint32_t *sample);
+/* guarded.c: each function of the boundary that can refuse, but the runs (traces.c), made on lent copies; the same
+ * arguments and the same answer. */
+__typeof__(scorve_confirm_from_word) guarded_confirm_from_word;
+__typeof__(scorve_confirm_new) guarded_confirm_new;
+__typeof__(scorve_confirm_step) guarded_confirm_step;
+__typeof__(scorve_vote_from_word) guarded_vote_from_word;
+__typeof__(scorve_vote_new) guarded_vote_new;
+__typeof__(scorve_vote_step) guarded_vote_step;
+__typeof__(scorve_tuple_from_word) guarded_tuple_from_word;
+__typeof__(scorve_tuple_new) guarded_tuple_new;
+__typeof__(scorve_tuple_step) guarded_tuple_step;
+__typeof__(scorve_reserve_from_word) guarded_reserve_from_word;
+__typeof__(scorve_reserve_new) guarded_reserve_new;
+uint32_t guarded_reserve_step(scorve_reserve *state, const uint32_t units[UNITS], scorve_reserve_answer *answer);
+__typeof__(scorve_sizing_of) guarded_sizing_of;
+__typeof__(scorve_threshold_vote) guarded_threshold_vote;
+uint32_t guarded_recording_read(bytes recording, const slice slices[COLUMNS], scorve_header *header, uint32_t *sample);
 uint32_t guarded_listing_list(bytes recording, bytes out, size_t *written, uint32_t *refused);
 
 #endif

@@ -1,26 +1,71 @@
-/* The four voters' runs, and the same samples taken step by step from a fresh state. */
+/* The four voters' runs, and the same samples taken step by step from a fresh state. One output more of a run is told
+ * three times here: in its call, in what its steps answer, and in its row at the end. */
 #include "traces.h"
+
+size_t outputs_of(const voter *v)
+{
+  size_t k = 0;
+  while (k < OUTPUTS && v->outputs[k].name != NULL)
+    k++;
+  return k;
+}
+
+/* The run, made on lent copies of its slices. */
+uint32_t guarded_run(const voter *v, trace *t)
+{
+  static const char *const names[UNITS] = {"unit 1", "unit 2", "unit 3", "unit 4"};
+  lent_trace lent;
+  size_t k;
+  for (k = 0; k < v->units; k++)
+    lent.units[k] = lend_words(names[k], t->units[k]);
+  for (k = 0; k < outputs_of(v); k++)
+    lent.outputs[k] = lend_slice(v->outputs[k].name, t->outputs[k]);
+  lent.sample = lend_sample(&t->sample);
+  return settle(v->name, v->call(t, &lent));
+}
+
+/* A slice as a call takes it: its place and its length. */
+#define IN(k) lent->units[k], t->units[k].length
+#define OUT(k) lent->outputs[k], t->outputs[k].length
+
+static uint32_t run_confirm(const trace *t, const lent_trace *lent)
+{
+  return scorve_confirm_run(t->n, t->need, t->word, IN(0), OUT(0), OUT(1), OUT(2), lent->sample);
+}
+
+static uint32_t run_vote(const trace *t, const lent_trace *lent)
+{
+  return scorve_vote_run(t->n, t->need, t->word, IN(0), IN(1), OUT(0), OUT(1), lent->sample);
+}
+
+static uint32_t run_tuple(const trace *t, const lent_trace *lent)
+{
+  return scorve_tuple_run(t->n, t->need, t->word, IN(0), IN(1), OUT(0), OUT(1), OUT(2), lent->sample);
+}
+
+static uint32_t run_reserve(const trace *t, const lent_trace *lent)
+{
+  return scorve_reserve_run(t->n, t->need, t->word, IN(0), IN(1), IN(2), IN(3), OUT(0), OUT(1), lent->sample);
+}
 
 static void check_made(uint32_t refusal)
 {
   check(refusal == SCORVE_OK, "the fresh state was refused with %lu", (unsigned long)refusal);
 }
 
-/* One step's answer beside what the run wrote for this sample. */
-static void check_step(const trace *t, size_t i, uint32_t refusal, uint32_t word, uint32_t mark)
+/* What a step answered beside what the run wrote for this sample, in the order of its outputs. */
+static void check_step(const voter *v, const trace *t, size_t i, uint32_t refusal, const uint32_t answered[OUTPUTS])
 {
+  size_t k;
   check(refusal == SCORVE_OK, "step %lu was refused with %lu", (unsigned long)i, (unsigned long)refusal);
-  check(word == t->shown.at[i] && mark == t->marks.at[i], "step %lu: word %lu, mark %lu; the run: word %lu, mark %lu",
-        (unsigned long)i, (unsigned long)word, (unsigned long)mark, (unsigned long)t->shown.at[i],
-        (unsigned long)t->marks.at[i]);
+  for (k = 0; k < outputs_of(v); k++)
+    check(element(t->outputs[k], i) == answered[k], "step %lu answered %lu; the run: %lu in %s", (unsigned long)i,
+          (unsigned long)answered[k], (unsigned long)element(t->outputs[k], i), v->outputs[k].name);
 }
 
-static uint32_t run_confirm(trace *t)
-{
-  return guarded_confirm_run(t->n, t->need, t->word, t->units[0], t->shown, t->marks, t->third, &t->sample);
-}
+#define ANSWERED (const uint32_t[OUTPUTS])
 
-static void step_confirm(const trace *t)
+static void step_confirm(const voter *v, const trace *t)
 {
   scorve_confirm state;
   scorve_confirm_answer answer;
@@ -31,17 +76,11 @@ static void step_confirm(const trace *t)
     uint32_t refusal;
     make_dirty(&answer, sizeof answer);
     refusal = guarded_confirm_step(&state, t->units[0].at[i], &answer);
-    check_step(t, i, refusal, answer.word, answer.mark);
-    check(state.count == t->third.at[i], "step %lu: count %lu", (unsigned long)i, (unsigned long)state.count);
+    check_step(v, t, i, refusal, ANSWERED{answer.word, answer.mark, state.count});
   }
 }
 
-static uint32_t run_vote(trace *t)
-{
-  return guarded_vote_run(t->n, t->need, t->word, t->units[0], t->units[1], t->shown, t->marks, &t->sample);
-}
-
-static void step_vote(const trace *t)
+static void step_vote(const voter *v, const trace *t)
 {
   scorve_vote state;
   scorve_vote_answer answer;
@@ -52,17 +91,11 @@ static void step_vote(const trace *t)
     uint32_t refusal;
     make_dirty(&answer, sizeof answer);
     refusal = guarded_vote_step(&state, t->units[0].at[i], t->units[1].at[i], 0, &answer);
-    check_step(t, i, refusal, answer.word, answer.mark);
+    check_step(v, t, i, refusal, ANSWERED{answer.word, answer.mark});
   }
 }
 
-static uint32_t run_tuple(trace *t)
-{
-  return guarded_tuple_run(t->n, t->need, t->word, t->units[0], t->units[1], t->shown, t->third, t->marks,
-                           &t->sample);
-}
-
-static void step_tuple(const trace *t)
+static void step_tuple(const voter *v, const trace *t)
 {
   scorve_tuple state;
   scorve_tuple_answer answer;
@@ -73,20 +106,14 @@ static void step_tuple(const trace *t)
     uint32_t refusal;
     make_dirty(&answer, sizeof answer);
     refusal = guarded_tuple_step(&state, t->units[0].at[i], t->units[1].at[i], &answer);
-    check_step(t, i, refusal, answer.word, answer.mark);
-    check(answer.mask == t->third.at[i], "step %lu: mask %lu", (unsigned long)i, (unsigned long)answer.mask);
+    check_step(v, t, i, refusal, ANSWERED{answer.word, answer.mask, answer.mark});
     check((answer.mask != 0) == (answer.mark == SCORVE_ALARM), "step %lu: the mask and the mark differ",
           (unsigned long)i);
   }
 }
 
-static uint32_t run_reserve(trace *t)
-{
-  return guarded_reserve_run(t->n, t->need, t->word, t->units, t->shown, t->marks, &t->sample);
-}
-
 /* The second pair is voted on from the sample after the first alarm. */
-static void step_reserve(const trace *t)
+static void step_reserve(const voter *v, const trace *t)
 {
   scorve_reserve state;
   scorve_reserve_answer answer;
@@ -99,16 +126,19 @@ static void step_reserve(const trace *t)
     uint32_t refusal;
     make_dirty(&answer, sizeof answer);
     refusal = guarded_reserve_step(&state, now, &answer);
-    check_step(t, i, refusal, answer.word, answer.mark);
+    check_step(v, t, i, refusal, ANSWERED{answer.word, answer.mark});
     check(answer.pair == pair, "step %lu: pair %lu", (unsigned long)i, (unsigned long)answer.pair);
     if (answer.mark == SCORVE_ALARM)
       pair = 2;
   }
 }
 
+#define WORDS(name) {name, sizeof(uint32_t)}
+#define BYTES(name) {name, sizeof(uint8_t)}
+
 const voter voters[VOTERS] = {
-  {"confirm", 1, 1, SCORVE_HELD, run_confirm, step_confirm},
-  {"vote", 2, 0, SCORVE_ALARM, run_vote, step_vote},
-  {"tuple", 2, 1, SCORVE_ALARM, run_tuple, step_tuple},
-  {"reserve", 4, 0, SCORVE_ALARM, run_reserve, step_reserve},
+  {"confirm_run", 1, {WORDS("words"), BYTES("marks"), WORDS("counts")}, 1, SCORVE_HELD, run_confirm, step_confirm},
+  {"vote_run", 2, {WORDS("words"), BYTES("marks")}, 1, SCORVE_ALARM, run_vote, step_vote},
+  {"tuple_run", 2, {WORDS("words"), WORDS("masks"), BYTES("marks")}, 2, SCORVE_ALARM, run_tuple, step_tuple},
+  {"reserve_run", 4, {WORDS("words"), BYTES("marks")}, 1, SCORVE_ALARM, run_reserve, step_reserve},
 };

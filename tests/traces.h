@@ -1,30 +1,46 @@
-/* A run of any of the four voters, so that one test can be made on all. */
+/* A run of any of the four voters: a row of the table says what it reads and writes, so that a test of one is a test of
+ * all. */
 #ifndef TRACES_H
 #define TRACES_H
 
-#include "more.h"
+#include "tests.h"
 
-#define UNITS 4
+#define OUTPUTS 4 /* the most that a run writes */
 
-/* The arguments of a run; a voter uses those it has. */
+/* The arguments of a run; a voter uses the first slices, as many as it has. */
 typedef struct trace {
   uint32_t n, need, word, sample;
   words units[UNITS]; /* the samples */
-  words shown;        /* the words */
-  bytes marks;
-  words third;        /* the counts of a confirmation, the masks of a tuple vote */
+  slice outputs[OUTPUTS];
 } trace;
 
-typedef struct voter {
+/* The copies of a trace's slices that are lent to one run. */
+typedef struct lent_trace {
+  const uint32_t *units[UNITS];
+  void *outputs[OUTPUTS];
+  uint32_t *sample;
+} lent_trace;
+
+/* What a run writes for each sample: its name, and the bytes of one element. */
+typedef struct output {
   const char *name;
-  size_t units;                        /* how many columns of samples its run reads */
-  int has_third;
+  size_t size;
+} output;
+
+typedef struct voter {
+  const char *name;        /* of its run */
+  size_t units;            /* how many columns of samples the run reads */
+  output outputs[OUTPUTS]; /* in the order of its arguments; the rest have no name */
+  size_t marks;            /* the output that holds the marks */
   uint32_t greatest_mark;
-  uint32_t (*run)(trace *t);
-  void (*check_steps)(const trace *t); /* the run wrote what steps from a fresh state answer */
+  uint32_t (*call)(const trace *t, const lent_trace *lent);
+  void (*check_steps)(const struct voter *v, const trace *t); /* the run wrote what steps from a fresh state answer */
 } voter;
 
-#define VOTERS 4
+enum { CONFIRM, VOTE, TUPLE, RESERVE, VOTERS };
 extern const voter voters[VOTERS];
+
+size_t outputs_of(const voter *v);
+uint32_t guarded_run(const voter *v, trace *t);
 
 #endif
