@@ -12,7 +12,7 @@
  *     refused step leaves *answer as it was: uninitialised, if it was. Only a run
  *     and the reader tell the number of the sample, in *sample, with every call:
  *     0 except with SCORVE_BAD_SAMPLE.
- *   - An alarm is an answer and no error: the call returns 0, and the mark is
+ *   - An alarm is an answer and no error: the call returns 0, and the mark is 2,
  *     SCORVE_ALARM.
  *   - It checks every value: numbers, words, states. A state may come from
  *     anywhere; a step refuses one that no step takes.
@@ -43,6 +43,7 @@
 #include <stddef.h>
 #include <stdint.h>
 
+/* Kept by the compiler, and by the linker where the compiler can ask it to. */
 #if defined(__has_attribute)
 #if __has_attribute(retain)
 #define SCORVE_KEPT __attribute__((used, retain))
