@@ -1,5 +1,5 @@
-"""What the documents say beside names: how wide they are, which wrong answers are tried, what a command prints, and in which order
-the definitions are read. Each function gives the complaints about a text; .ci/test-docs has the rules."""
+"""What the documents say beside names: how wide they are, which wrong answers are tried, what a command prints, and in
+which order the definitions are read. Each function gives the complaints about a text; .ci/test-docs has the rules."""
 import re
 import subprocess
 
@@ -19,7 +19,7 @@ def form(text):
 
 
 def answers(text, project):
-    """A wrong answer stands in a section of its room, or with its room's name anywhere; if no section is its room's, anywhere."""
+    """A wrong answer stands in its room's section, if there is one, or with its room's name anywhere."""
     parts = list(sections(text))
     for room, names in project.answers.items():
         own = [part for rooms, part in parts if room in rooms] or [part for _, part in parts]
@@ -44,14 +44,14 @@ def told(text):
 
 
 def dumps(text):
-    """(command, lines) of each dump: a command of od in backquotes, and the code after it, less the words that explain a line."""
+    """(command, lines) of each dump: a command of od in backquotes and the code after it, less the words that explain."""
     for command, code in re.findall(r'`(od [^`]+)`[^`]*?\n\n((?: {4}.*\n)+)', text):
         yield command, [re.split(r' {4}', line[4:])[0].rstrip() for line in code.splitlines()]
 
 
 def commands(text, top):
     for command, output in [*told(text), *dumps(text)]:
-        done = subprocess.run(['bash', '-c', command], cwd=top, stdout=subprocess.PIPE, stderr=subprocess.DEVNULL, timeout=60)
+        done = subprocess.run(['bash', '-c', command], cwd=top, stdout=subprocess.PIPE, stderr=subprocess.DEVNULL)
         if done.stdout.decode(errors='replace').splitlines() != output:
             yield 'has a command that prints another text: %s' % command.split('\n')[0]
 
@@ -76,7 +76,8 @@ def reading(text, top):
             yield 'says that %s has %d lines' % (name, lines)
     before = set()
     for name, _ in rows(re.split(r'(?m)^## ', text)[2]):
-        for room, file in re.findall(r'^use Rattle·(\w+?)(?:·specs)?\.specs\.(?!declared)(\w+)', (crates / name).read_text(), re.M):
+        uses = r'^use Rattle·(\w+?)(?:·specs)?\.specs\.(?!declared)(\w+)'
+        for room, file in re.findall(uses, (crates / name).read_text(), re.M):
             used = '%s/specs/%s.antt' % (room, file)
             if used not in before:
                 yield 'has %s before %s, which it uses' % (name, used)

@@ -1,10 +1,11 @@
-"""The names in the documents' backquotes, and whether they are defined where the documents say; .ci/test-docs has the rules."""
+"""The names in the documents' backquotes: are they defined where the documents say? .ci/test-docs has the rules."""
 import re
 
 STATEMENTS = 'docs/STATEMENTS.md'
 VOTERS = ['confirm', 'vote', 'tuple', 'reserve']
-# words of the kit and of its language, the letters of a listing, what a program reads and writes, and the room that was parted
-OUTSIDE = set('rt requires ensures Learnt Reads tt zip getD stdin stdout C A H N v vectors scorve_ memset 01-scope.md'.split())
+# words of the kit and of its language; the letters of a listing; what a program reads and writes; the room that was parted
+OUTSIDE = {'rt', 'requires', 'ensures', 'Learnt', 'Reads', 'tt', 'zip', 'getD', 'C', 'A', 'H', 'N', 'v'}
+OUTSIDE |= {'stdin', 'stdout', 'vectors', 'scorve_', 'memset', '01-scope.md'}
 TOKEN = re.compile(r'`([^`\n]+)`')
 LIST = r'((?:`[^`]+`(?:, and |, | and ))*`[^`]+`)'
 QUALIFIED = re.compile(LIST + r',? (?:\(|of |in )(?:' + LIST + r"|each voter(?!'))")
@@ -39,7 +40,7 @@ def spelt_out(name):
     """The names that VOTER stands for; after a small letter it is capital, as in MakesVOTER."""
     if 'VOTER' not in name:
         return [name]
-    return [re.sub(r'VOTER', lambda m: v.capitalize() if re.search(r'[a-z]$', name[:m.start()]) else v, name) for v in VOTERS]
+    return [re.sub(r'(?<=[a-z])VOTER', voter.capitalize(), name).replace('VOTER', voter) for voter in VOTERS]
 
 
 class Names:
@@ -70,12 +71,13 @@ class Names:
             for place, scope in scopes:
                 if scope is not None and scopes[0][1] is not None:
                     yield from ((name, place, scope) for name in names)
-        unique = set().union(*(n for p, n in self.project.files.items() if p.name.startswith('Unique') and self.room(p) in rooms))
+        files = [p for p in self.project.files if p.name.startswith('Unique') and self.room(p) in rooms]
+        unique = set().union(*(self.project.files[p] for p in files))
         for match in DETERMINED.finditer(text) if rooms else ():
             yield from ((name, 'Unique.antt', unique) for name in TOKEN.findall(match[1]))
 
     def is_path(self, document, path):
-        """From the top, in some crate, beside the document, or a wrong answer. What is built or installed is not there yet."""
+        """From the top, in a crate, beside the document, or a wrong answer. What is built or installed is not there yet."""
         places = [self.top, self.top / 'crates', (self.top / document).parent, *(self.top / 'crates').iterdir()]
         if path.startswith(('target/', 'PREFIX/', '/')) or path in self.answers:
             return True
