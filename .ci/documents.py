@@ -3,7 +3,7 @@ import re
 
 STATEMENTS = 'docs/STATEMENTS.md'
 VOTERS = ['confirm', 'vote', 'tuple', 'reserve']
-# words of the kit and of its language; the letters of a listing; what a program reads and writes; the room that was parted
+# words of the kit and its language, the letters of a listing, what a program reads and writes, the room that was parted
 OUTSIDE = {'rt', 'requires', 'ensures', 'Learnt', 'Reads', 'tt', 'zip', 'getD', 'C', 'A', 'H', 'N', 'v'}
 OUTSIDE |= {'stdin', 'stdout', 'vectors', 'scorve_', 'memset', '01-scope.md'}
 TOKEN = re.compile(r'`([^`\n]+)`')
