@@ -5,7 +5,7 @@ STATEMENTS = 'docs/STATEMENTS.md'
 VOTERS = ['confirm', 'vote', 'tuple', 'reserve']
 # words of the kit and its language, the letters of a listing, what a program reads and writes, the room that was parted
 OUTSIDE = {'rt', 'requires', 'ensures', 'Learnt', 'Reads', 'tt', 'zip', 'getD', 'C', 'A', 'H', 'N', 'v'}
-OUTSIDE |= {'stdin', 'stdout', 'vectors', 'scorve_', 'memset', '01-scope.md'}
+OUTSIDE |= {'--', 'stdin', 'stdout', 'vectors', 'scorve_', 'memset', '01-scope.md'}
 TOKEN = re.compile(r'`([^`\n]+)`')
 LIST = r'((?:`[^`]+`(?:, and |, | and ))*`[^`]+`)'
 QUALIFIED = re.compile(LIST + r',? (?:\(|of |in )(?:' + LIST + r"|each voter(?!'))")
