@@ -19,7 +19,7 @@ use Rattle.tuple.specs.Run.{shownWord, shownMark}
 
 -- the decision, of any test
 abbrev pub byTest : Tuple → Voters → Bool → TupleStep
-byTest s v alarmed = if alarmed then alarm s v else confirms v (confirm.clauses (s .confirm) (v .word))
+byTest s v alarmed = if alarmed then alarm s v else confirms s v (confirm.clauses (s .confirm) (v .word))
 
 -- what confirmation answers the tuple vote shows as it is, without a mask
 pub record Same (x : ConfirmAnswer) : Type 0 where
@@ -37,7 +37,7 @@ module _ (s : Tuple) (a b : ℕ) where
   -- what holds of an alarm and of a confirmation holds of the step
   pub either-way :
       (P : TupleStep → Type 0) → let v = votersOf s a b in
-      P (alarm s v) → P (confirms v (confirm.clauses (s .confirm) (v .word))) → P (clauses s a b)
+      P (alarm s v) → P (confirms s v (confirm.clauses (s .confirm) (v .word))) → P (clauses s a b)
   unfolding clauses
   either-way P loud quiet = go (not (eqb (votersOf s a b .mask) 0)) where
     go : (p : Bool) → P (byTest s (votersOf s a b) p)

@@ -1,5 +1,5 @@
 -- A step that is taken in parts, the counts in place, is the step of the clauses.
-use mathlib.Core.Path.{_≡_, sym, ap, subst, _∙_}
+use mathlib.Core.Path.{_≡_, refl, sym, ap, subst, _∙_}
 use mathlib.Core.List.{List}
 use mathlib.Core.Bool.{Bool, false}
 use Prim.Native.Nat.{ℕ, _≤_}
@@ -23,12 +23,12 @@ use Rattle.tuple.proofs.Sound.{Sound, above-zero, sound-next}
 
 -- what is known of such a step: that it is the clauses', what it shows, and what it leaves
 pub record Taken (n need : ℕ) (s : Tuple) (a b : ℕ) (v : Voted) (counts : List ℕ) (d : Decided) : Type 0 where
-  pub whole : stepWith d v counts ≡ clauses s a b
-  pub word-shown : d .confirm .output ≡ shownWord (stepWith d v counts)
-  pub mask-shown : v .mask ≡ shownMask (stepWith d v counts)
+  pub whole : stepWith s d v counts ≡ clauses s a b
+  pub word-shown : d .confirm .output ≡ shownWord (stepWith s d v counts)
+  pub mask-shown : v .mask ≡ shownMask (stepWith s d v counts)
   pub as-long : length counts ≡ 32
-  pub sound-left : Sound n (stepWith d v counts .state)
-  pub votes-left : voteNeed (stepWith d v counts .state) ≡ need
+  pub sound-left : Sound n (stepWith s d v counts .state)
+  pub votes-left : voteNeed (stepWith s d v counts .state) ≡ need
   pub all-rest : outside n a ≡ false → a ≡ b → counts ≡ replicate 32 0
 
 -- a state that a step takes may rest: where no voter waits every count is zero
@@ -55,9 +55,9 @@ module _ (n need : ℕ) (s : Tuple) (g : Sound n s) (votes : voteNeed s ≡ need
         ap (λ (x : Voters). x .counts) voted ∙ rest
 
     module _ (d : Decided) (decides : Decides (s .confirm) v d) where
-      whole : stepWith d v counts ≡ clauses s a b
+      whole : stepWith s d v counts ≡ clauses s a b
       unfolding clauses
-      whole = sym (decides (s .agreed) (s .counts) counts) ∙ ap (decided s) of-state
+      whole = sym (decides s counts refl) ∙ ap (decided s) of-state
 
       pub taken : Taken n need s a b v counts d
       taken =

@@ -61,7 +61,7 @@ mask-exactly n need word some i l xs k h =
     rw (mask-run (fresh n need word) i l xs) (λ e. alarms .0 (rw (voter-fresh n need word i) at (one .0 e)), λ d. one .1 (rw (voter-fresh n need word i) (alarms .1 d)))
 
 -- a sample without an alarm: the voted word has taken a step of confirmation
-pub quiet : (s : Tuple) (a b : ℕ) → shownMask (clauses s a b) ≡ 0 → clauses s a b ≡ confirms (votersOf s a b) (confirm.clauses (s .confirm) (votersOf s a b .word))
+pub quiet : (s : Tuple) (a b : ℕ) → shownMask (clauses s a b) ≡ 0 → clauses s a b ≡ confirms s (votersOf s a b) (confirm.clauses (s .confirm) (votersOf s a b .word))
 unfolding clauses
 quiet s a b e = rw (eq-eqb (votersOf s a b .mask) 0 (sym (mask-shown s a b) ∙ e))
 

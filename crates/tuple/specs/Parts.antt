@@ -11,23 +11,19 @@ use Rattle.tuple.specs.declared.Tuple.{Tuple}
 use Rattle.tuple.specs.declared.TupleStep.{TupleStep}
 use Rattle.tuple.specs.declared.Voted.{Voted}
 use Rattle.tuple.specs.declared.Voters.{Voters}
-use Rattle.tuple.specs.Tuple.{decided}
+use Rattle.tuple.specs.Tuple.{changed, decided}
 
 -- what the voters leave, with their counts
 abbrev pub together : Voted → List ℕ → Voters
 together v counts = record { word = v .word; mask = v .mask; counts = counts }
 
--- a state
-abbrev pub stateOf : Confirm → ℕ → List ℕ → Tuple
-stateOf confirm agreed counts = record { confirm = confirm; agreed = agreed; counts = counts }
-
 -- a step: what is decided, with what the voters leave
-abbrev pub stepWith : Decided → Voted → List ℕ → TupleStep
-stepWith d v counts = record { state = stateOf (d .confirm) (v .word) counts; answer = d .answer }
+abbrev pub stepWith : Tuple → Decided → Voted → List ℕ → TupleStep
+stepWith s d v counts = record { state = changed s (d .confirm) (v .word) counts; answer = d .answer }
 
--- d is what is decided: no count and no agreed word changes that
+-- d is what is decided: of a state only the confirmation's says what
 abbrev pub Decides : Confirm → Voted → Decided → Type 0
-Decides confirm v d = (agreed : ℕ) (old counts : List ℕ) → decided (stateOf confirm agreed old) (together v counts) ≡ stepWith d v counts
+Decides confirm v d = (s : Tuple) (counts : List ℕ) → s .confirm ≡ confirm → decided s (together v counts) ≡ stepWith s d v counts
 
 -- no place at n or above counts, and none at all where no voter waits
 pub record Resting (n : ℕ) (waiting : Bool) (counts : List ℕ) : Type 0 where

@@ -11,6 +11,7 @@ use Rattle.rules.specs.Signals.{asWord, asList, someBelow}
 use Rattle.rules.specs.Table.{Row, _when_, first, answer}
 use Rattle.rules.specs.Refusals.{makeRows, stepRows}
 use Rattle.confirm.specs.Confirm as confirm
+use Rattle.confirm.specs.declared.Confirm.{Confirm}
 use Rattle.confirm.specs.declared.ConfirmAnswer.{ConfirmAnswer}
 use Rattle.confirm.specs.declared.ConfirmAnswer.the-variants.{Confirmed as ConfirmedOne, Held as HeldOne, Refused as RefusedOne}
 use Rattle.confirm.specs.declared.ConfirmStep.{ConfirmStep}
@@ -70,9 +71,13 @@ voters n need agreed counts a b =
 abbrev pub votersOf : Tuple → ℕ → ℕ → Voters
 votersOf s a b = voters (width s) (voteNeed s) (s .agreed) (s .counts) a b
 
+-- the state s with what a step changes of it
+abbrev pub changed : Tuple → Confirm → ℕ → List ℕ → Tuple
+changed s confirm agreed counts = record { confirm = confirm; agreed = agreed; counts = counts }
+
 -- an alarm: the mask with the previous output; confirmation takes no step
 abbrev pub alarm : Tuple → Voters → TupleStep
-alarm s v = record { state = record { confirm = s .confirm; agreed = v .word; counts = v .counts }; answer = Alarm (s .confirm .output) (v .mask) }
+alarm s v = record { state = changed s (s .confirm) (v .word) (v .counts); answer = Alarm (s .confirm .output) (v .mask) }
 
 abbrev pub confirmedAs : ConfirmAnswer → TupleAnswer
 confirmedAs (ConfirmedOne w) = Confirmed w
@@ -80,12 +85,12 @@ confirmedAs (HeldOne w) = Held w
 confirmedAs (RefusedOne k) = Refused k
 
 -- the voted word has taken a step of confirmation
-abbrev pub confirms : Voters → ConfirmStep → TupleStep
-confirms v t = record { state = record { confirm = t .state; agreed = v .word; counts = v .counts }; answer = confirmedAs (t .answer) }
+abbrev pub confirms : Tuple → Voters → ConfirmStep → TupleStep
+confirms s v t = record { state = changed s (t .state) (v .word) (v .counts); answer = confirmedAs (t .answer) }
 
 -- if any alarms, the alarm; otherwise the voted word takes a step of confirmation, with the same N. All voters step in either case
 abbrev pub decided : Tuple → Voters → TupleStep
-decided s v = if not (eqb (v .mask) 0) then alarm s v else confirms v (confirm.clauses (s .confirm) (v .word))
+decided s v = if not (eqb (v .mask) 0) then alarm s v else confirms s v (confirm.clauses (s .confirm) (v .word))
 
 unfoldable pub clauses : Tuple → ℕ → ℕ → TupleStep
 clauses s a b = decided s (votersOf s a b)

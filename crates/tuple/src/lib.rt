@@ -246,7 +246,7 @@ impl Tuple {
         let counts = self.counts;
         let stored = self.agreed | (confirm.input | confirm.output);
         let placed = !signals::bad_places(confirm.n as usize, self.vote_need(), counts);
-        let counted = rules::counted(confirm.need, confirm.count) & placed;
+        let counted = placed & rules::counted(confirm.need, confirm.count);
         rules::admits(counted, confirm.n, (a | b) | stored)
     }
 

@@ -1,6 +1,6 @@
 -- `Tuple::admits` meets its contract: the one test, with the places as one more reason for row 7.
-use mathlib.Core.Path.{_≡_, ap, ap₂, _∙_}
-use mathlib.Core.Bool.{Bool, true, false, not, _&&_, _||_, or-true, or-false, or-assoc}
+use mathlib.Core.Path.{_≡_, refl, sym, ap, ap₂, _∙_}
+use mathlib.Core.Bool.{Bool, true, false, not, _&&_, _||_, or-true, or-assoc}
 use Prim.Native.Nat.{ℕ, _-_}
 use borrow.Author.Needs.{needs}
 use lib.Bits.{bitOr}
@@ -8,42 +8,42 @@ use lib.Dec.{ltb, eqb}
 use Rattle.rules.specs.Limits.{outside}
 use Rattle.rules.specs.Table.{first}
 use Rattle.rules.specs.Refusals.{counted, admits}
-use Rattle.rules.proofs.OneTest.{admits-exactly, counted-more}
+use Rattle.rules.proofs.OneTest.{admits-exactly, both-counted}
 use Rattle.rules.proofs.Width.{outside-or}
 use Rattle.tuple.specs.declared.Tuple.{Tuple}
 use Rattle.tuple.specs.Tuple.{width, voteNeed, miscounted, badPlaces, badState, earlyRows}
 use Rattle.tuple.proofs.Tuple.admits.Statement.{statement}
 use Rattle.tuple.proofs.Tuple.admits.Tie as tie
 
--- the reasons for row 7 in the order of the definition: l the count, p the places, g, x and y the agreed word, the input and the output
-in-order : (l p g x y : Bool) → (l || p) || (g || (x || y)) ≡ (p || g) || ((l || x) || y)
-in-order l true g x y = rw (or-true l)
-in-order l false true x y = rw (or-false l, or-true l)
-in-order l false false x y = rw (or-false l, or-assoc l x y)
+-- the reasons for row 7 in the order of the definition: p the places, l the count, g, x and y the agreed word, the input and the output
+in-order : (p l g x y : Bool) → (p || l) || (g || (x || y)) ≡ (p || g) || ((l || x) || y)
+in-order true l g x y = refl
+in-order false l true x y = or-true l
+in-order false l false x y = sym (or-assoc l x y)
 
 tested : (s : Tuple) (a b : ℕ) → let f = s .confirm in
-    admits (counted (f .need) (f .count) && not (badPlaces (width s) (voteNeed s) (s .counts))) (f .n) (bitOr (bitOr a b) (bitOr (s .agreed) (bitOr (f .input) (f .output))))
+    admits (not (badPlaces (width s) (voteNeed s) (s .counts)) && counted (f .need) (f .count)) (f .n) (bitOr (bitOr a b) (bitOr (s .agreed) (bitOr (f .input) (f .output))))
     ≡ eqb (first (earlyRows s a b)) 0
 tested s a b =
     let f = s .confirm in
     let late = ltb (f .need - 1) (f .count) in
     let places = badPlaces (width s) (voteNeed s) (s .counts) in
-    let spoilt : (late || places) || outside (f .n) (bitOr (s .agreed) (bitOr (f .input) (f .output))) ≡ badState s =
+    let spoilt : (places || late) || outside (f .n) (bitOr (s .agreed) (bitOr (f .input) (f .output))) ≡ badState s =
     rw (outside-or (f .n) (s .agreed) (bitOr (f .input) (f .output)), outside-or (f .n) (f .input) (f .output))
-    (in-order late places (outside (f .n) (s .agreed)) (outside (f .n) (f .input)) (outside (f .n) (f .output))) in
-    admits-exactly (miscounted s) (late || places) (f .n) (bitOr a b) (bitOr (s .agreed) (bitOr (f .input) (f .output)))
-    (counted-more (miscounted s) late places) (outside-or (f .n) a b) spoilt
+    (in-order places late (outside (f .n) (s .agreed)) (outside (f .n) (f .input)) (outside (f .n) (f .output))) in
+    admits-exactly (miscounted s) (places || late) (f .n) (bitOr a b) (bitOr (s .agreed) (bitOr (f .input) (f .output)))
+    (both-counted false places (miscounted s) late) (outside-or (f .n) a b) spoilt
 
 -- the arguments, and what was found of the counts
 abbrev start-of : tie.After-counted → tie.Start
 start-of c = c .before .before .before .before .before .before .before .before
 
 counting : (c : tie.After-counted) → let s = start-of c .args .self in
-    c .counted .result && not (c .before .bad-places .result) ≡ counted (s .confirm .need) (s .confirm .count) && not (badPlaces (width s) (voteNeed s) (s .counts))
+    not (c .before .bad-places .result) && c .counted .result ≡ not (badPlaces (width s) (voteNeed s) (s .counts)) && counted (s .confirm .need) (s .confirm .count)
 counting c =
     let s = start-of c .args .self in
     let placed = c .before .bad-places .ensures ∙ ap (λ (need : ℕ). badPlaces (width s) need (s .counts)) (c .before .before .vote-need .ensures) in
-    ap₂ (λ (p q : Bool). p && not q) (c .counted .ensures) placed
+    ap₂ (λ (p q : Bool). not p && q) placed (c .counted .ensures)
 
 returns : tie.Need-returns
 returns c =

@@ -10,9 +10,9 @@ use borrow.Author.Tests.{eqb-true, not-false}
 use lib.ListN.{length, replicate}
 use Rattle.trace.proofs.FillPairs.{FilledPair, start-pair, turn-pair, filled-pair}
 use Rattle.confirm.specs.declared.Confirm.{Confirm}
-use Rattle.tuple.specs.Parts.{stateOf}
 use Rattle.tuple.specs.Run.{stepped, leaves, shownWord, shownMask, shownMark}
-use Rattle.tuple.specs.Tuple.{voteNeed, fresh}
+use Rattle.tuple.specs.declared.Tuple.{Tuple}
+use Rattle.tuple.specs.Tuple.{voteNeed, fresh, changed}
 use Rattle.tuple.proofs.Accepted.{Accepted, accept}
 use Rattle.tuple.proofs.InParts.{wide, rests, taken}
 use Rattle.tuple.proofs.Sound.{Sound}
@@ -24,12 +24,12 @@ record Going (n need word : ℕ) (a b words masks marks : List ℕ) (confirm : C
   few : length a ≤ 2048
   second-long : length a ≡ length b
   counts-long : length counts ≡ 32
-  sound : Sound n (stateOf confirm agreed counts)
-  votes : voteNeed (stateOf confirm agreed counts) ≡ need
+  sound : Sound n (changed (fresh n need word) confirm agreed counts)
+  votes : voteNeed (changed (fresh n need word) confirm agreed counts) ≡ need
   rest : waiting ≡ false → counts ≡ replicate 32 0
-  in-words : FilledPair stepped leaves shownWord (fresh n need word) a b words i (stateOf confirm agreed counts)
-  in-masks : FilledPair stepped leaves shownMask (fresh n need word) a b masks i (stateOf confirm agreed counts)
-  in-marks : FilledPair stepped leaves shownMark (fresh n need word) a b marks i (stateOf confirm agreed counts)
+  in-words : FilledPair stepped leaves shownWord (fresh n need word) a b words i (changed (fresh n need word) confirm agreed counts)
+  in-masks : FilledPair stepped leaves shownMask (fresh n need word) a b masks i (changed (fresh n need word) confirm agreed counts)
+  in-marks : FilledPair stepped leaves shownMark (fresh n need word) a b marks i (changed (fresh n need word) confirm agreed counts)
 
 abbrev Inv-loop : tie.InvT-loop
 Inv-loop n need word a b words₀ masks₀ marks₀ confirm₀ agreed₀ counts₀ waiting₀ i₀ words masks marks confirm agreed counts waiting i =
@@ -51,10 +51,13 @@ accepted : (c : tie.After-counts Inv-loop μ-loop) → let x = start-of c .args 
     Accepted (x .n) (x .need) (x .word) (x .a .now) (x .b .now) (x .words .now) (x .masks .now) (x .marks .now)
 accepted c = accept _ _ _ _ _ _ _ _ (start-of c .pre)
 
+abbrev started : tie.After-counts Inv-loop μ-loop → Tuple
+started c = let x = start-of c .args in fresh (x .n) (x .need) (x .word)
+
 loop-holds : tie.Need-loop-holds Inv-loop μ-loop
 loop-holds c =
     let x = start-of c .args in
-    let start = fresh (x .n) (x .need) (x .word) in
+    let start = started c in
     let ok = accepted c in
     rw (c .before .before .fresh .ensures) (record {
       within = omega arith;
@@ -74,7 +77,7 @@ step-sample-requires c κs =
     let in-loop = c .before .before .before in
     let l = in-loop .before .loop in
     let inv = l .inv in
-    let s = stateOf (l .confirm) (l .agreed) (l .counts) in
+    let s = changed (started (in-loop .before .before)) (l .confirm) (l .agreed) (l .counts) in
     let inside = accepted (in-loop .before .before) .first-inside (l .i) (in-loop .loop-test .taken) in
     ((wide _ _ s (inv .sound) (inv .votes), inv .counts-long), (inside, rests _ _ s (inv .sound) (inv .votes) (l .waiting) (inv .rest)))
 
@@ -86,7 +89,7 @@ loop-again c =
     let l = in-loop .before .loop in
     let inv = l .inv in
     let more = in-loop .loop-test .taken in
-    let t = taken _ _ (stateOf (l .confirm) (l .agreed) (l .counts)) (inv .sound) (inv .votes) (inv .counts-long) _ _
+    let t = taken _ _ (changed (started (in-loop .before .before)) (l .confirm) (l .agreed) (l .counts)) (inv .sound) (inv .votes) (inv .counts-long) _ _
     (voted .step-sample .result) _ (voted .step-sample .ensures) (decided .result) (decided .ensures) in
     let inside = accepted (in-loop .before .before) .first-inside (l .i) more in
     record {
