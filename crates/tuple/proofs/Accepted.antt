@@ -17,24 +17,25 @@ use Rattle.trace.specs.declared.RunAnswer.the-variants.{Done}
 use Rattle.trace.proofs.Columns.{zip-length, zip-at}
 use Rattle.trace.proofs.Runs.{answer-done}
 use Rattle.trace.proofs.Samples.{nowhere}
+use Rattle.tuple.specs.declared.Tuple.{Tuple}
 use Rattle.tuple.specs.Run.{unequal, answerOf}
 use Rattle.tuple.specs.Tuple.{fresh}
 use Rattle.tuple.proofs.Sound.{Sound, fresh-sound}
 
-pub record Accepted (n need word : ℕ) (a b words masks marks : List ℕ) : Type 0 where
+pub record Accepted (n : ℕ) (start : Tuple) (a b words masks marks : List ℕ) : Type 0 where
   pub few : length a ≤ 2048
   pub second-long : length a ≡ length b
   pub words-long : length a ≡ length words
   pub masks-long : length a ≡ length masks
   pub marks-long : length a ≡ length marks
-  pub start-sound : Sound n (fresh n need word)
+  pub start-sound : Sound n start
   pub first-inside : (i : ℕ) → i < length a → outside n (getD a i 0) ≡ false
 
 module _ (n need word : ℕ) (a b words masks marks : List ℕ) (accepted : answerOf n need word a b words masks marks ≡ Done) where
   pub fine : Runs (badCount need) n word (longPair a b) (apartPair a b (unequal a words masks marks)) (somewhere (outsidePair n) (zip a b))
   fine = answer-done _ _ _ _ _ outsidePair (zip a b) accepted
 
-  pub accept : Accepted n need word a b words masks marks
+  pub accept : Accepted n (fresh n need word) a b words masks marks
   accept =
       let all = or-each (same _ _) (or-each (or-each (same _ _) (same _ _)) (same _ _)) (fine .alike) in
       record {

@@ -19,21 +19,21 @@ use Rattle.tuple.proofs.Sound.{Sound}
 use Rattle.tuple.proofs.steps.write_steps.Statement.{statement}
 use Rattle.tuple.proofs.steps.write_steps.Tie as tie
 
-record Going (n need word : ℕ) (a b words masks marks : List ℕ) (confirm : Confirm) (agreed : ℕ) (counts : List ℕ) (waiting : Bool) (i : ℕ) : Type 0 where
+record Going (n : ℕ) (start : Tuple) (a b words masks marks : List ℕ) (confirm : Confirm) (agreed : ℕ) (counts : List ℕ) (waiting : Bool) (i : ℕ) : Type 0 where
   within : i ≤ length a
   few : length a ≤ 2048
   second-long : length a ≡ length b
   counts-long : length counts ≡ 32
-  sound : Sound n (changed (fresh n need word) confirm agreed counts)
-  votes : voteNeed (changed (fresh n need word) confirm agreed counts) ≡ need
+  sound : Sound n (changed start confirm agreed counts)
+  votes : voteNeed (changed start confirm agreed counts) ≡ voteNeed start
   rest : waiting ≡ false → counts ≡ replicate 32 0
-  in-words : FilledPair stepped leaves shownWord (fresh n need word) a b words i (changed (fresh n need word) confirm agreed counts)
-  in-masks : FilledPair stepped leaves shownMask (fresh n need word) a b masks i (changed (fresh n need word) confirm agreed counts)
-  in-marks : FilledPair stepped leaves shownMark (fresh n need word) a b marks i (changed (fresh n need word) confirm agreed counts)
+  in-words : FilledPair stepped leaves shownWord start a b words i (changed start confirm agreed counts)
+  in-masks : FilledPair stepped leaves shownMask start a b masks i (changed start confirm agreed counts)
+  in-marks : FilledPair stepped leaves shownMark start a b marks i (changed start confirm agreed counts)
 
 abbrev Inv-loop : tie.InvT-loop
 Inv-loop n need word a b words₀ masks₀ marks₀ confirm₀ agreed₀ counts₀ waiting₀ i₀ words masks marks confirm agreed counts waiting i =
-    Going n need word a b words masks marks confirm agreed counts waiting i
+    Going n (fresh n need word) a b words masks marks confirm agreed counts waiting i
 
 abbrev μ-loop : tie.MeasureT-loop
 μ-loop n need word a b words₀ masks₀ marks₀ confirm₀ agreed₀ counts₀ waiting₀ i₀ words masks marks confirm agreed counts waiting i =
@@ -46,13 +46,13 @@ start-of c = c .before .before .before .before .before .before .before .before
 abbrev loop-of : tie.After-step-sample Inv-loop μ-loop → tie.In-loop Inv-loop μ-loop
 loop-of c = c .before .before .before .before
 
--- the run is accepted
-accepted : (c : tie.After-counts Inv-loop μ-loop) → let x = start-of c .args in
-    Accepted (x .n) (x .need) (x .word) (x .a .now) (x .b .now) (x .words .now) (x .masks .now) (x .marks .now)
-accepted c = accept _ _ _ _ _ _ _ _ (start-of c .pre)
-
 abbrev started : tie.After-counts Inv-loop μ-loop → Tuple
 started c = let x = start-of c .args in fresh (x .n) (x .need) (x .word)
+
+-- the run is accepted
+accepted : (c : tie.After-counts Inv-loop μ-loop) → let x = start-of c .args in
+    Accepted (x .n) (started c) (x .a .now) (x .b .now) (x .words .now) (x .masks .now) (x .marks .now)
+accepted c = accept _ _ _ _ _ _ _ _ (start-of c .pre)
 
 loop-holds : tie.Need-loop-holds Inv-loop μ-loop
 loop-holds c =
