@@ -16,13 +16,13 @@ use Rattle.trace.proofs.Runs.{done-when}
 use Rattle.confirm.specs.Confirm as confirm
 use Rattle.confirm.specs.Run as confirmRun
 use Rattle.confirm.specs.declared.ConfirmStep.{ConfirmStep}
-use Rattle.tuple.specs.Tuple as tuple
 use Rattle.tuple.specs.Run as tupleRun
 use Rattle.tuple.specs.declared.TupleStep.{TupleStep}
 use Rattle.reserve.specs.Reserve as reserve
 use Rattle.reserve.specs.Run as reserveRun
 use Rattle.reserve.specs.declared.ReserveStep.{ReserveStep}
 use Rattle.recording.specs.declared.Header.{Header}
+use Rattle.listing.specs.Listing.{pairSteps}
 use Rattle.listing.specs.Runnable.{Column, Runnable, Room}
 
 alike : {a b c : ℕ} → a ≡ c → b ≡ c → differ a b ≡ false
@@ -59,7 +59,7 @@ module _ (h : Header) (run : Runnable h) where
 
   module _ {one two words marks masks : List ℕ} (x : Column h one) (y : Column h two) (r : Room h words marks masks) where
     abbrev pair-taken : List TupleStep
-    pair-taken = tupleRun.steps (tuple.fresh (h .n) (h .need) (h .word)) (zip one two)
+    pair-taken = pairSteps (h .n) (h .need) (h .word) one two
 
     pub pair-done : tupleRun.answerOf (h .n) (h .need) (h .word) one two words masks marks ≡ Done
     pair-done =

@@ -10,14 +10,13 @@ use Rattle.trace.proofs.Steps.{trace-length}
 use Rattle.trace.proofs.Columns.{zip-length, four-length}
 use Rattle.confirm.specs.Confirm as confirm
 use Rattle.confirm.specs.Run as confirmRun
-use Rattle.tuple.specs.Tuple as tuple
 use Rattle.tuple.specs.Run as tupleRun
 use Rattle.reserve.specs.Reserve as reserve
 use Rattle.reserve.specs.Run as reserveRun
 use Rattle.recording.specs.declared.Header.{Header}
 use Rattle.listing.specs.declared.Kind.{Kind}
 use Rattle.listing.specs.declared.Kind.the-variants.{Confirm, Pair, Reserve}
-use Rattle.listing.specs.Listing.{listingOf, confirmText, pairText, reserveText, unitsText}
+use Rattle.listing.specs.Listing.{listingOf, confirmText, pairSteps, pairText, reserveText, unitsText}
 
 -- as many samples of two units, or of four, as there are in each
 pub two-long : {k : ℕ} (one two : List ℕ) → length one ≡ k → length two ≡ k → length (zip one two) ≡ k
@@ -47,7 +46,7 @@ module _
       go true q = each Confirm _ _ _ (shown (confirmRun.steps (confirm.fresh (h .n) (h .need) (h .word)) one) confirmRun.shownWord (trace-length _ _ _ one ∙ a))
       go false true =
           each Pair _ _ _
-          (shown (tupleRun.steps (tuple.fresh (h .n) (h .need) (h .word)) (zip one two)) tupleRun.shownWord (trace-length _ _ _ (zip one two) ∙ two-long one two a b))
+          (shown (pairSteps (h .n) (h .need) (h .word) one two) tupleRun.shownWord (trace-length _ _ _ (zip one two) ∙ two-long one two a b))
       go false false =
           let xs = reserveRun.samplesOf one two three four in
           each Reserve _ _ _

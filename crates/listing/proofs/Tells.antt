@@ -35,7 +35,7 @@ use Rattle.recording.proofs.Answers.{read-exactly, read-six, read-others}
 use Rattle.recording.proofs.Shapes.{one-two-four}
 use Rattle.recording.proofs.Taken.{Accepted, taken}
 use Rattle.listing.specs.declared.Kind.the-variants.{Confirm, Pair, Reserve}
-use Rattle.listing.specs.Listing.{unitsText, unit, textOf}
+use Rattle.listing.specs.Listing.{pairSteps, unitsText, unit, textOf}
 use Rattle.listing.specs.Runnable.{Column, Runnable}
 use Rattle.listing.proofs.Accepts.{four-in}
 use Rattle.listing.proofs.Columns.{runnable, column}
@@ -51,7 +51,7 @@ confirmTable h one =
 
 abbrev pub pairTable : Header → List ℕ → List ℕ → Answers
 pairTable h one two =
-    table h Pair tupleRun.shownWord tupleRun.shownMark tupleRun.shownMask (tupleRun.steps (tuple.fresh (h .n) (h .need) (h .word)) (zip one two))
+    table h Pair tupleRun.shownWord tupleRun.shownMark tupleRun.shownMask (pairSteps (h .n) (h .need) (h .word) one two)
 
 abbrev pub reserveTable : Header → List ℕ → List ℕ → List ℕ → List ℕ → Answers
 reserveTable h one two three four =

@@ -15,6 +15,7 @@ use Rattle.confirm.specs.Confirm as confirm
 use Rattle.confirm.specs.Run as confirmRun
 use Rattle.tuple.specs.Tuple as tuple
 use Rattle.tuple.specs.Run as tupleRun
+use Rattle.tuple.specs.declared.TupleStep.{TupleStep}
 use Rattle.reserve.specs.Reserve as reserve
 use Rattle.reserve.specs.Run as reserveRun
 use Rattle.recording.specs.Recording.{sampleAt, readOf}
@@ -66,9 +67,13 @@ confirmText n need word samples =
     let steps = confirmRun.steps (confirm.fresh n need word) samples in
     listingOf Confirm n need (map confirmRun.shownWord steps) (map confirmRun.shownMark steps) (map confirmRun.shownCount steps)
 
+-- the recording's N serves the voters and the confirmation
+abbrev pub pairSteps : ℕ → ℕ → ℕ → List ℕ → List ℕ → List TupleStep
+pairSteps n need word one two = tupleRun.steps (tuple.fresh n need word) (zip one two)
+
 abbrev pub pairText : ℕ → ℕ → ℕ → List ℕ → List ℕ → List ℕ
 pairText n need word one two =
-    let steps = tupleRun.steps (tuple.fresh n need word) (zip one two) in
+    let steps = pairSteps n need word one two in
     listingOf Pair n need (map tupleRun.shownWord steps) (map tupleRun.shownMark steps) (map tupleRun.shownMask steps)
 
 abbrev pub reserveText : ℕ → ℕ → ℕ → List ℕ → List ℕ → List ℕ → List ℕ → List ℕ

@@ -4,7 +4,7 @@ use Prim.Native.Nat.{ℕ, _-_}
 use mathlib.Core.Path.{_≡_, refl, sym, _∙_}
 use mathlib.Core.Logic.{dite}
 use mathlib.Core.List.{List, [], _∷_}
-use mathlib.Core.Bool.{Bool, true, false, not, _&&_, _||_, or-true, or-false}
+use mathlib.Core.Bool.{Bool, true, false, not, _&&_, _||_, or-true}
 use native.Mathlib.Decide.{decLt}
 use native.Mathlib.Omega.{arith}
 use lib.Bits.{bitOr}
@@ -50,10 +50,6 @@ both-counted true l m′ l′ = refl
 both-counted false true true l′ = refl
 both-counted false true false l′ = refl
 both-counted false false m′ l′ = refl
-
--- and with one count and one more reason for row 7
-pub counted-more : (m l p : Bool) → not (m || l) && not p ≡ not (m || (l || p))
-counted-more m l p = both-counted m l false p ∙ rw (or-false m)
 
 -- the one test, and the tests of the table: `o` of the sample's words, `s` of the state's, `l` of its counts
 whole : (m w o s l : Bool) → not (m || l) && not (w || (o || s)) ≡ eqb (first (fourRows m w o (l || s))) 0

@@ -55,13 +55,14 @@ pub made-fresh : (n need word : ℕ) → Makes (badCount need) n word → madeOf
 unfolding madeOf
 made-fresh n need word = makes (badCount need) n word notMade (made n need word)
 
--- from a sound state, on samples inside the width, each public step is the clauses
+-- and it is one that a step takes, so on samples inside the width each public step is the clauses
 pub same-steps :
-    (n : ℕ) (s : Tuple) → Sound n s → (xs : List (ℕ × ℕ)) → ((i : ℕ) → i < length xs → outsidePair n (getD xs i (0, 0)) ≡ false)
-    → steps s xs ≡ publicSteps s xs
-same-steps n s g xs =
-    agree stepped publicStep leaves (Sound n) (λ (x : ℕ × ℕ). outsidePair n x ≡ false)
-    (λ s x. step-is-clauses n s (x .0) (x .1)) (λ s x g e. sound-next n s g (x .0) (x .1)) (0, 0) s xs g
+    (n need word : ℕ) → Makes (badCount need) n word → (xs : List (ℕ × ℕ)) → ((i : ℕ) → i < length xs → outsidePair n (getD xs i (0, 0)) ≡ false)
+    → steps (fresh n need word) xs ≡ publicSteps (madeOf n need word .state) xs
+same-steps n need word m xs inside =
+    rw (made-fresh n need word m)
+    (agree stepped publicStep leaves (Sound n) (λ (x : ℕ × ℕ). outsidePair n x ≡ false)
+    (λ s x. step-is-clauses n s (x .0) (x .1)) (λ s x g e. sound-next n s g (x .0) (x .1)) (0, 0) (fresh n need word) xs (fresh-sound n need word m) inside)
 
 pub run-is-steps :
     (n need word : ℕ) (a b words masks marks words′ masks′ marks′ : List ℕ)
@@ -69,11 +70,9 @@ pub run-is-steps :
 run-is-steps n need word a b words masks marks words′ masks′ marks′ ran =
     let f = fine n need word a b words masks marks (sym (ran .answered)) in
     let m = run-makes _ _ _ _ _ _ f in
-    let made = made-fresh n need word m in
-    let same : steps (fresh n need word) (zip a b) ≡ publicSteps (madeOf n need word .state) (zip a b) =
-    rw made (same-steps n _ (fresh-sound n need word m) (zip a b) (nowhere (outsidePair n) (zip a b) (0, 0) (f .samples-in))) in
+    let same = same-steps n need word m (zip a b) (nowhere (outsidePair n) (zip a b) (0, 0) (f .samples-in)) in
     record {
-      made = rw made;
+      made = rw (made-fresh n need word m);
       words-same = ran .words-after ∙ ap (map shownWord) same;
       masks-same = ran .masks-after ∙ ap (map shownMask) same;
       marks-same = ran .marks-after ∙ ap (map shownMark) same;
