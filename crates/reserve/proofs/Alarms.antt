@@ -21,7 +21,7 @@ use Rattle.vote.specs.Run.{plain, leaves, steps as voteSteps, shownMark as vote
 use Rattle.vote.specs.Vote as vote
 use Rattle.vote.specs.declared.Vote.{Vote}
 use Rattle.vote.proofs.Alarms.{alarm-exactly}
-use Rattle.vote.proofs.Clauses.{reset-silent, same-sizes}
+use Rattle.vote.proofs.Clauses.{reset-silent, reset-fresh, same-sizes}
 use Rattle.reserve.specs.Alarms.{FirstAlarm, ReserveAlarm, AlarmsAt}
 use Rattle.reserve.specs.Parts.{tookOver}
 use Rattle.reserve.specs.Reserve.{fresh}
@@ -66,14 +66,6 @@ need-stays : (v : Vote) (xs : List (ℕ × ℕ)) → left plain leaves v xs .nee
 unfolding left
 need-stays v [] = refl
 need-stays v (x ∷ xs) = need-stays (leaves (plain v x)) xs ∙ same-sizes v (x .0) (x .1) false .1
-
--- a reset leaves a fresh state
-reset-fresh : (s : Vote) (a b : ℕ) → vote.clauses s a b true .state ≡ vote.fresh (s .n) (s .need) (vote.clauses s a b true .state .word)
-unfolding vote.clauses
-reset-fresh s a b = go (eqb a b) where
-  go : (p : Bool) → let t = (if p then vote.agreed s a else vote.held s 0) in t .state ≡ vote.fresh (s .n) (s .need) (t .state .word)
-  go true = refl
-  go false = refl
 
 -- N in a row disagree in what comes after sample `over`: they do in the whole trace, and all come after `over`
 behind : (need over k i : ℕ) (xs : List (ℕ × ℕ)) → i ≡ over + suc k → Disagreeing need (drop (suc over) xs) k ↔ ((over + need ≤ i) × Disagreeing need xs i)

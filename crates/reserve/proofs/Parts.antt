@@ -14,7 +14,7 @@ use Rattle.rules.specs.Choose.{if_then_else_}
 use Rattle.trace.specs.Trace.{trace, left}
 use Rattle.trace.proofs.Columns.{zip-length, zip-at, zip-drop}
 use Rattle.vote.specs.Answers.{wordOf, markOf}
-use Rattle.vote.specs.Parts.{takenBy, Parts, AsLong, Shown, Taken}
+use Rattle.vote.specs.Parts.{takenBy, Parts, Lent, AsLong, Shown, Taken}
 use Rattle.vote.specs.Run as voteRun
 use Rattle.vote.specs.Vote as vote
 use Rattle.vote.specs.declared.Vote.{Vote}
@@ -97,10 +97,10 @@ module _ (g : VoteAnswer → ℕ) where
 
 -- the steps of `vote::columns::write_steps` on units 1 and 2, and those from the hand-over on, are the run
 module _
-    (s : Reserve) (primary : s .phase ≡ Primary) (a b c d words₀ marks₀ : List ℕ) (long : AsLong a b words₀ marks₀) (ac : length a ≡ length c) (ad : length a ≡ length d)
-    {r : VotePart} {words marks : List ℕ} (wrote : Parts true (s .vote) a b words₀ marks₀ r words marks) where
-  taken : Taken true (s .vote) (zip a b) words₀ marks₀ (r .end) (r .state) true words marks
-  taken = as-taken true (s .vote) a b words₀ marks₀ long r words marks wrote
+    (s : Reserve) (primary : s .phase ≡ Primary) (a b c d : List ℕ) (l₀ l : Lent) (long : AsLong a b l₀) (ac : length a ≡ length c) (ad : length a ≡ length d)
+    {r : VotePart} (wrote : Parts true (s .vote) a b (l₀ .words) (l₀ .marks) r (l .words) (l .marks)) where
+  taken : Taken true (s .vote) (zip a b) l₀ (r .end) (r .state) true l
+  taken = as-taken true (s .vote) a b l₀ l long r wrote
 
   as-long : length (zip a b) ≡ length a
   as-long = zip-length a b (long .second-long)
@@ -121,9 +121,9 @@ module _
   in-two g q = rw (q .shown) (shown g)
 
   pub in-parts-shown :
-      (take (r .end) words ++ map voteRun.shownWord (tookOver (r .state) (drop (r .end) (zip c d))) ≡ map shownWord (steps s (samplesOf a b c d)))
-      × (take (r .end) marks ++ map voteRun.shownMark (tookOver (r .state) (drop (r .end) (zip c d))) ≡ map shownMark (steps s (samplesOf a b c d)))
-  in-parts-shown = (in-two wordOf (taken .in-words), in-two markOf (taken .in-marks))
+      (take (r .end) (l .words) ++ map voteRun.shownWord (tookOver (r .state) (drop (r .end) (zip c d))) ≡ map shownWord (steps s (samplesOf a b c d)))
+      × (take (r .end) (l .marks) ++ map voteRun.shownMark (tookOver (r .state) (drop (r .end) (zip c d))) ≡ map shownMark (steps s (samplesOf a b c d)))
+  in-parts-shown = (in-two wordOf (taken .written .in-words), in-two markOf (taken .written .in-marks))
 
   -- without a hand-over before the end, units 1 and 2 are all
   module _ (all : length a ≤ r .end) where
@@ -133,8 +133,8 @@ module _
         let past : length (zip c d) ≤ r .end = omega (arith, zip-length c d (omega arith)) in
         rw (drop-of-length-le (zip c d) past, take-all (r .end) l (omega (arith, q .long, as-long)), append-nil) at (in-two g q)
 
-    pub in-one-shown : (words ≡ map shownWord (steps s (samplesOf a b c d))) × (marks ≡ map shownMark (steps s (samplesOf a b c d)))
-    in-one-shown = (in-one wordOf (taken .in-words), in-one markOf (taken .in-marks))
+    pub in-one-shown : (l .words ≡ map shownWord (steps s (samplesOf a b c d))) × (l .marks ≡ map shownMark (steps s (samplesOf a b c d)))
+    in-one-shown = (in-one wordOf (taken .written .in-words), in-one markOf (taken .written .in-marks))
 
 -- the rest of a slice is put in the place of all that stands from k on
 put-rest : (k : ℕ) (l m : List ℕ) → k ≤ length l → putMid k (length l - k) l m ≡ take k l ++ m

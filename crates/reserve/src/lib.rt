@@ -10,7 +10,7 @@ ghost use mathlib.Core.List.{_++_, map, zip};
 ghost use Prim.Native.Nat.{_<_};
 ghost use lib.ListN.{length, take, drop};
 ghost use Rattle.rules.specs.Limits.{defaultWord};
-ghost use Rattle.vote.specs.Parts.{AsLong};
+ghost use Rattle.vote.specs.Parts.{lent, AsLong};
 ghost use Rattle.vote.specs.Run as voteRun;
 ghost use Rattle.reserve.specs.Parts.{tookOver};
 ghost use Rattle.reserve.specs.Reserve.{phaseAfter, firstPair, secondPair, clauses, madeOf, stepOf};
@@ -142,7 +142,7 @@ impl Reserve {
 // A step for each sample from a hand-over on, at sample `over`: what each shows is written. The first is with a reset.
 fn take_over(alarmed: Vote, over: usize, c: &[u32], d: &[u32], words: &mut [u32], marks: &mut [u8])
     requires { ⌜ over < length (now c) ⌝ }
-    requires { ⌜ AsLong (now c) (now d) (now words) (now marks) ⌝ }
+    requires { ⌜ AsLong (now c) (now d) (lent (now words) (now marks)) ⌝ }
     ensures { λ _. ⌜ now (words .exit) ≡
         take over (now (words .entry)) ++ map voteRun.shownWord (tookOver alarmed (drop over (zip (now (c .entry)) (now (d .entry))))) ⌝ }
     ensures { λ _. ⌜ now (marks .exit) ≡
@@ -174,7 +174,7 @@ fn write_steps(
     words: &mut [u32],
     marks: &mut [u8],
 )
-    requires { ⌜ AsLong (now a) (now b) (now words) (now marks) ⌝ }
+    requires { ⌜ AsLong (now a) (now b) (lent (now words) (now marks)) ⌝ }
     requires { ⌜ (length (now a) ≡ length (now c)) × (length (now a) ≡ length (now d)) ⌝ }
     requires { ⌜ start .phase ≡ Phase.Primary ⌝ }
     ensures { λ _. ⌜ now (words .exit) ≡

@@ -32,7 +32,7 @@ counting : (s : Vote) (x : ℕ × ℕ) → let t = plain s x in
     Counting 2 0 (s .need) (s .count) (disagrees s x) (ltb (s .count) (s .need - 1)) (t .state .need) (t .state .count) (shownMark t)
 unfolding clauses
 counting s x = go (equal x) (ltb (s .count) (s .need - 1)) where
-  go : (p r : Bool) → let t = byTests s (x .0) p false r in Counting 2 0 (s .need) (s .count) (not p) r (t .state .need) (t .state .count) (shownMark t)
+  go : (p r : Bool) → let t = byTests s (x .0) (x .1) p false r in Counting 2 0 (s .need) (s .count) (not p) r (t .state .need) (t .state .count) (shownMark t)
   go true r = record { stays = refl; counted = refl; marked = refl }
   go false true = record { stays = refl; counted = refl; marked = refl }
   go false false = record { stays = refl; counted = refl; marked = refl }

@@ -10,11 +10,11 @@ use Rattle.rules.specs.Choose.{if_then_else_}
 use Rattle.vote.specs.declared.Vote.{Vote}
 use Rattle.vote.specs.declared.VoteStep.{VoteStep}
 use Rattle.vote.specs.Run.{shownWord, shownMark}
-use Rattle.vote.specs.Vote.{agreed, held, alarm, clauses}
+use Rattle.vote.specs.Vote.{fresh, agreed, held, alarm, clauses}
 
 -- the clauses, of any three tests
-abbrev pub byTests : Vote → ℕ → Bool → Bool → Bool → VoteStep
-byTests s a equal reset waiting =
+abbrev pub byTests : Vote → ℕ → ℕ → Bool → Bool → Bool → VoteStep
+byTests s a b equal reset waiting =
     if equal then agreed s a else
     if reset then held s 0 else
     if waiting then held s (s .count + 1) else
@@ -27,7 +27,7 @@ module _ (s : Vote) where
       → P (agreed s a) → P (held s 0) → P (held s (s .count + 1)) → P (alarm s) → P (clauses s a b reset)
   unfolding clauses
   each-clause P a b reset u v w x = go (eqb a b) reset (ltb (s .count) (s .need - 1)) where
-    go : (p q r : Bool) → P (byTests s a p q r)
+    go : (p q r : Bool) → P (byTests s a b p q r)
     go true q r = u
     go false true r = v
     go false false true = w
@@ -40,10 +40,18 @@ module _ (s : Vote) where
 
   pub reset-silent : (a b : ℕ) → shownMark (clauses s a b true) ≡ 2 → ⊥
   unfolding clauses
-  reset-silent a b = go (eqb a b) where
-    go : (p : Bool) → shownMark (if p then agreed s a else held s 0) ≡ 2 → ⊥
-    go true e = omega arith
-    go false e = omega arith
+  reset-silent a b = go (eqb a b) (ltb (s .count) (s .need - 1)) where
+    go : (p r : Bool) → shownMark (byTests s a b p true r) ≡ 2 → ⊥
+    go true r e = omega arith
+    go false r e = omega arith
+
+  -- and leaves a fresh state
+  pub reset-fresh : (a b : ℕ) → clauses s a b true .state ≡ fresh (s .n) (s .need) (clauses s a b true .state .word)
+  unfolding clauses
+  reset-fresh a b = go (eqb a b) (ltb (s .count) (s .need - 1)) where
+    go : (p r : Bool) → let t = byTests s a b p true r in t .state ≡ fresh (s .n) (s .need) (t .state .word)
+    go true r = refl
+    go false r = refl
 
   pub last-agreed : (a b : ℕ) (reset : Bool) → (shownMark (clauses s a b reset) ≡ 0 → ⊥) → (shownWord (clauses s a b reset) ≡ s .word) × (clauses s a b reset .state .word ≡ s .word)
   last-agreed a b reset =

@@ -20,7 +20,7 @@ use Rattle.trace.proofs.Steps.{trace-length}
 use Rattle.vote.specs.declared.Vote.{Vote}
 use Rattle.vote.specs.declared.VotePart.{VotePart}
 use Rattle.vote.specs.declared.VoteStep.{VoteStep}
-use Rattle.vote.specs.Parts.{takenBy, part, Parts, AsLong, Shown, Taken}
+use Rattle.vote.specs.Parts.{takenBy, part, Parts, Lent, lent, stored, AsLong, Shown, Written, Taken}
 use Rattle.vote.specs.Run.{plain, leaves, steps, shownWord, shownMark, unequal}
 use Rattle.vote.specs.Vote.{agreed}
 use Rattle.vote.proofs.Clauses.{agrees}
@@ -39,69 +39,91 @@ rest-turn : (l l₀ : List ℕ) (i v : ℕ) → drop i l ≡ drop i l₀ → dro
 rest-turn l l₀ i v e = drop-set-lt (i + 1) l i v (omega arith) ∙ sym (drop-drop 1 i l) ∙ ap (drop 1) e ∙ drop-drop 1 i l₀
 
 -- where no length differs every slice is as long as the first column
-pub all-long : (a b words marks : List ℕ) → apartPair a b (unequal a words marks) ≡ false → AsLong a b words marks
-all-long a b words marks e =
-    let all = or-each (same _ _) (or-each (same _ _) (same _ _)) e in
-    record { second-long = all .0; words-long = all .1 .0; marks-long = all .1 .1 }
+pub slices-long : (a b : List ℕ) (l : Lent) → length a ≡ length b → unequal a (l .words) (l .marks) ≡ false → AsLong a b l
+slices-long a b l ab e =
+    let all = or-each (same _ _) (same _ _) e in
+    record { second-long = ab; words-long = all .0; marks-long = all .1 }
+
+pub all-long : (a b : List ℕ) (l : Lent) → apartPair a b (unequal a (l .words) (l .marks)) ≡ false → AsLong a b l
+all-long a b l e =
+    let all = or-each (same _ _) (λ e. e) e in
+    slices-long a b l (all .0) (all .1)
+
+-- what code stores of a step, value by value
+pub stored-as : (l : Lent) (i : ℕ) (t : VoteStep) {w m : ℕ} → w ≡ shownWord t → m ≡ shownMark t → lent (set (l .words) i w) (set (l .marks) i m) ≡ stored l i t
+stored-as l i t v u = rw (v, u)
 
 -- slices that are stored to stay as long
-pub stored-long : {a b words marks : List ℕ} (i v m : ℕ) → AsLong a b words marks → AsLong a b (set words i v) (set marks i m)
-stored-long {words = words} {marks = marks} i v m l =
-    record { second-long = l .second-long; words-long = l .words-long ∙ sym (length-set words i v); marks-long = l .marks-long ∙ sym (length-set marks i m) }
+pub stored-long : {a b : List ℕ} {l′ : Lent} (l : Lent) (i : ℕ) (t : VoteStep) → l′ ≡ stored l i t → AsLong a b l → AsLong a b l′
+stored-long l i t e p =
+    rw e
+    (record {
+      second-long = p .second-long;
+      words-long = p .words-long ∙ sym (length-set (l .words) i (shownWord t));
+      marks-long = p .marks-long ∙ sym (length-set (l .marks) i (shownMark t));
+    })
 
 -- and so are the rests of all, from a sample on
 abbrev restOf : ℕ → List ℕ → List ℕ
 restOf k l = take (length l - k) (drop k l)
 
-pub rests-long : (k : ℕ) (a b words marks : List ℕ) → AsLong a b words marks → AsLong (restOf k a) (restOf k b) (restOf k words) (restOf k marks)
-rests-long k a b words marks l =
+pub rests-long : (k : ℕ) (a b : List ℕ) (l : Lent) → AsLong a b l → AsLong (restOf k a) (restOf k b) (lent (restOf k (l .words)) (restOf k (l .marks)))
+rests-long k a b l p =
     record {
-      second-long = rests-alike k a b (l .second-long);
-      words-long = rests-alike k a words (l .words-long);
-      marks-long = rests-alike k a marks (l .marks-long);
+      second-long = rests-alike k a b (p .second-long);
+      words-long = rests-alike k a (l .words) (p .words-long);
+      marks-long = rests-alike k a (l .marks) (p .marks-long);
+    }
+
+-- nothing is written yet
+none-shown : (f : VoteStep → ℕ) (s₀ : Vote) (xs : List (ℕ × ℕ)) (l : List ℕ) → length l ≡ length xs → Shown f s₀ xs l 0 l
+unfolding trace
+none-shown f s₀ xs l h = record { long = h; shown = refl; rest = refl }
+
+none-written : (s₀ : Vote) (a b : List ℕ) (l : Lent) → AsLong a b l → Written s₀ (zip a b) l 0 l
+none-written s₀ a b l p =
+    let long = zip-length a b (p .second-long) in
+    record {
+      in-words = none-shown shownWord s₀ (zip a b) (l .words) (omega (arith, long, p));
+      in-marks = none-shown shownMark s₀ (zip a b) (l .marks) (omega (arith, long, p));
     }
 
 -- the step t on sample i is taken, and what it shows is stored
-shown-on :
-    (f : VoteStep → ℕ) (s₀ : Vote) (xs : List (ℕ × ℕ)) (l₀ l : List ℕ) (i : ℕ) (t : VoteStep) (v : ℕ)
-    → t ≡ plain (left plain leaves s₀ (take i xs)) (getD xs i (0, 0)) → v ≡ f t → i < length xs → Shown f s₀ xs l₀ i l → Shown f s₀ xs l₀ (i + 1) (set l i v)
-shown-on f s₀ xs l₀ l i t v q w h p =
-    record {
-      long = length-set l i v ∙ p .long;
-      shown = rw add-one (shown-turn plain leaves s₀ xs i (0, 0) h f l t v (omega (arith, p .long)) q w (p .shown));
-      rest = rest-turn l l₀ i v (p .rest);
-    }
+module _ (s₀ : Vote) (xs : List (ℕ × ℕ)) (i : ℕ) (t : VoteStep) (q : t ≡ plain (left plain leaves s₀ (take i xs)) (getD xs i (0, 0))) (h : i < length xs) where
+  shown-on : (f : VoteStep → ℕ) {l₀ l : List ℕ} → Shown f s₀ xs l₀ i l → Shown f s₀ xs l₀ (i + 1) (set l i (f t))
+  shown-on f {l₀} {l} p =
+      record {
+        long = length-set l i (f t) ∙ p .long;
+        shown = rw add-one (shown-turn plain leaves s₀ xs i (0, 0) h f l t (f t) (omega (arith, p .long, h)) q refl (p .shown));
+        rest = rest-turn l l₀ i (f t) (p .rest);
+      }
 
-module _ (once : Bool) (s₀ : Vote) (a b : List ℕ) (ab : length a ≡ length b) (words₀ marks₀ : List ℕ) where
+  written-on : {l₀ l : Lent} → Written s₀ xs l₀ i l → Written s₀ xs l₀ (i + 1) (stored l i t)
+  written-on p = record { in-words = shown-on shownWord (p .in-words); in-marks = shown-on shownMark (p .in-marks) }
+
+module _ (once : Bool) (s₀ : Vote) (a b : List ℕ) (ab : length a ≡ length b) (l₀ : Lent) where
   abbrev samples : List (ℕ × ℕ)
   samples = zip a b
 
   as-long : length samples ≡ length a
   as-long = zip-length a b ab
 
-  pub none-taken : AsLong a b words₀ marks₀ → Taken once s₀ samples words₀ marks₀ 0 s₀ false words₀ marks₀
-  unfolding trace left
-  none-taken l =
-      record {
-        counted = omega arith;
-        leaving = refl;
-        in-words = record { long = omega (arith, as-long, l); shown = refl; rest = refl };
-        in-marks = record { long = omega (arith, as-long, l); shown = refl; rest = refl };
-      }
+  pub none-taken : AsLong a b l₀ → Taken once s₀ samples l₀ 0 s₀ false l₀
+  unfolding left
+  none-taken l = record { counted = omega arith; leaving = refl; written = none-written s₀ a b l₀ l }
 
-  module _ (words marks : List ℕ) (i : ℕ) (s : Vote) where
-    pub all-taken : length a ≤ i → Taken once s₀ samples words₀ marks₀ i s false words marks → Taken once s₀ samples words₀ marks₀ i s true words marks
+  module _ (l : Lent) (i : ℕ) (s : Vote) where
+    pub all-taken : length a ≤ i → Taken once s₀ samples l₀ i s false l → Taken once s₀ samples l₀ i s true l
     unfolding takenBy
     all-taken h p =
         let past : length samples ≤ i = omega (arith, as-long) in
-        record { counted = rw (drop-of-length-le samples past) at (p .counted); leaving = p .leaving; in-words = p .in-words; in-marks = p .in-marks }
+        record { counted = rw (drop-of-length-le samples past) at (p .counted); leaving = p .leaving; written = p .written }
 
     pub one-taken :
-        (t : VoteStep) (w m : ℕ) → t ≡ plain s (getD a i 0, getD b i 0) → w ≡ shownWord t → m ≡ shownMark t → i < length a
-        → Taken once s₀ samples words₀ marks₀ i s false words marks
-        → Taken once s₀ samples words₀ marks₀ (i + 1) (leaves t) (once && eqb m 2) (set words i w) (set marks i m)
+        (t : VoteStep) (m : ℕ) (l′ : Lent) → t ≡ plain s (getD a i 0, getD b i 0) → m ≡ shownMark t → l′ ≡ stored l i t → i < length a
+        → Taken once s₀ samples l₀ i s false l → Taken once s₀ samples l₀ (i + 1) (leaves t) (once && eqb m 2) l′
     unfolding takenBy
-    one-taken t w m q v u h p =
+    one-taken t m l′ q u e h p =
         let more : i < length samples = omega (arith, as-long) in
         let here : t ≡ plain s (getD samples i (0, 0)) = q ∙ ap (plain s) (sym (zip-at a b i 0 0 h ab)) in
         let there = here ∙ ap (λ (s : Vote). plain s (getD samples i (0, 0))) (sym (p .leaving)) in
@@ -109,28 +131,26 @@ module _ (once : Bool) (s₀ : Vote) (a b : List ℕ) (ab : length a ≡ length 
         record {
           counted = rw (u, here, add-one) (omega (arith, rest));
           leaving = rw (add-one, left-turn plain leaves s₀ samples i (0, 0) more) (ap leaves (sym there));
-          in-words = shown-on shownWord s₀ samples words₀ words i t w there v more (p .in-words);
-          in-marks = shown-on shownMark s₀ samples marks₀ marks i t m there u more (p .in-marks);
+          written = rw e (written-on s₀ samples i t there more (p .written));
         }
 
     -- one that agrees never ends it
     pub agreed-taken :
-        getD a i 0 ≡ getD b i 0 → i < length a → Taken once s₀ samples words₀ marks₀ i s false words marks
-        → Taken once s₀ samples words₀ marks₀ (i + 1) (leaves (agreed s (getD a i 0))) false (set words i (getD a i 0)) (set marks i 0)
-    agreed-taken e h p = rw (← no-alarm once 0 refl) (one-taken (agreed s (getD a i 0)) (getD a i 0) 0 (rw (← e) (sym (agrees s (getD a i 0) false))) refl refl h p)
+        getD a i 0 ≡ getD b i 0 → i < length a → Taken once s₀ samples l₀ i s false l → let t = agreed s (getD a i 0) in
+        Taken once s₀ samples l₀ (i + 1) (leaves t) false (stored l i t)
+    agreed-taken e h p = rw (← no-alarm once 0 refl) (one-taken (agreed s (getD a i 0)) 0 _ (rw (← e) (sym (agrees s (getD a i 0) false))) refl refl h p)
 
 -- slices in which samples stand taken are as long as the columns
 pub taken-long :
-    {once over : Bool} {s₀ s : Vote} {a b words₀ marks₀ words marks : List ℕ} {end : ℕ}
-    → length a ≡ length b → Taken once s₀ (zip a b) words₀ marks₀ end s over words marks → AsLong a b words marks
-taken-long {a = a} {b = b} ab p =
+    {once over : Bool} {s₀ s : Vote} {l₀ l : Lent} {end : ℕ} (a b : List ℕ) → length a ≡ length b → Taken once s₀ (zip a b) l₀ end s over l → AsLong a b l
+taken-long a b ab p =
     let as-long = zip-length a b ab in
-    record { second-long = ab; words-long = sym (p .in-words .long ∙ as-long); marks-long = sym (p .in-marks .long ∙ as-long) }
+    let w = p .written in
+    record { second-long = ab; words-long = sym (w .in-words .long ∙ as-long); marks-long = sym (w .in-marks .long ∙ as-long) }
 
 -- whether it is over, as a test has found it
 pub told-over :
-    {once over told : Bool} {s₀ s : Vote} {xs : List (ℕ × ℕ)} {words₀ marks₀ words marks : List ℕ} {end : ℕ}
-    → over ≡ told → Taken once s₀ xs words₀ marks₀ end s over words marks → Taken once s₀ xs words₀ marks₀ end s told words marks
+    {once over told : Bool} {s₀ s : Vote} {xs : List (ℕ × ℕ)} {l₀ l : Lent} {end : ℕ} → over ≡ told → Taken once s₀ xs l₀ end s over l → Taken once s₀ xs l₀ end s told l
 told-over e p = rw (← e) p
 
 -- a part that no alarm ends is the whole run
@@ -138,12 +158,16 @@ whole :
     (f : VoteStep → ℕ) (s₀ : Vote) (xs : List (ℕ × ℕ)) (l₀ : List ℕ) (end : ℕ) (l : List ℕ) → length xs ≤ end → Shown f s₀ xs l₀ end l → l ≡ map f (steps s₀ xs)
 whole f s₀ xs l₀ end l every p = rw (take-all end xs every, take-all end l (omega (arith, p .long))) at (p .shown)
 
-pub whole-run :
-    (s₀ : Vote) (xs : List (ℕ × ℕ)) (words₀ marks₀ : List ℕ) (end : ℕ) (s : Vote) (words marks : List ℕ)
-    → Taken false s₀ xs words₀ marks₀ end s true words marks → (words ≡ map shownWord (steps s₀ xs)) × (marks ≡ map shownMark (steps s₀ xs))
-whole-run s₀ xs words₀ marks₀ end s words marks p =
+-- what every slice shows of the steps
+pub record Shows (ts : List VoteStep) (l : Lent) : Type 0 where
+  pub words-are : l .words ≡ map shownWord ts
+  pub marks-are : l .marks ≡ map shownMark ts
+
+pub whole-run : (s₀ : Vote) (xs : List (ℕ × ℕ)) (l₀ : Lent) (end : ℕ) (s : Vote) (l : Lent) → Taken false s₀ xs l₀ end s true l → Shows (steps s₀ xs) l
+whole-run s₀ xs l₀ end s l p =
     let every : length xs ≤ end = omega (arith, p .counted, takes-all s₀ xs) in
-    (whole shownWord s₀ xs words₀ end words every (p .in-words), whole shownMark s₀ xs marks₀ end marks every (p .in-marks))
+    let w = p .written in
+    record { words-are = whole shownWord s₀ xs _ end _ every (w .in-words); marks-are = whole shownMark s₀ xs _ end _ every (w .in-marks) }
 
 -- what is promised is what the loops leave, where columns and slices are of one length
 taken-most : (once : Bool) (s : Vote) (xs : List (ℕ × ℕ)) → takenBy once s xs ≤ length xs
@@ -157,17 +181,17 @@ taken-most once s (x ∷ xs) = go (once && eqb (shownMark (plain s x)) 2) (taken
 shown-long : (f : VoteStep → ℕ) (s : Vote) (xs : List (ℕ × ℕ)) (end : ℕ) → end ≤ length xs → length (map f (steps s (take end xs))) ≡ end
 shown-long f s xs end h = length-map (steps s (take end xs)) f ∙ trace-length plain leaves s (take end xs) ∙ length-take-le end xs h
 
-module _ (once : Bool) (s : Vote) (a b words marks : List ℕ) (alike : apartPair a b (unequal a words marks) ≡ false) where
-  pub promised :
-      (r : VotePart) (words′ marks′ : List ℕ) → Taken once s (zip a b) words marks (r .end) (r .state) true words′ marks′
-      → Parts once s a b words marks r words′ marks′
-  promised r words′ marks′ p =
-      let here : takenBy once s (zip a b) ≡ r .end = omega (arith, p .counted) in
-      record {
-        answered = rw (alike, here, p .leaving);
-        words-after = rw (← p .in-words .shown, ← p .in-words .rest) (sym (take-append-drop (r .end) words′));
-        marks-after = rw (← p .in-marks .shown, ← p .in-marks .rest) (sym (take-append-drop (r .end) marks′));
-      }
+pub promised :
+    (once : Bool) (s : Vote) (a b : List ℕ) (l l′ : Lent) (r : VotePart) → apartPair a b (unequal a (l .words) (l .marks)) ≡ false
+    → Taken once s (zip a b) l (r .end) (r .state) true l′ → Parts once s a b (l .words) (l .marks) r (l′ .words) (l′ .marks)
+promised once s a b l l′ r alike p =
+    let here : takenBy once s (zip a b) ≡ r .end = omega (arith, p .counted) in
+    let w = p .written in
+    record {
+      answered = rw (alike, here, p .leaving);
+      words-after = rw (← w .in-words .shown, ← w .in-words .rest) (sym (take-append-drop (r .end) (l′ .words)));
+      marks-after = rw (← w .in-marks .shown, ← w .in-marks .rest) (sym (take-append-drop (r .end) (l′ .marks)));
+    }
 
 as-shown :
     (f : VoteStep → ℕ) (s : Vote) (xs : List (ℕ × ℕ)) (end : ℕ) (l₀ l : List ℕ) → end ≤ length xs → length l₀ ≡ length xs
@@ -181,22 +205,23 @@ as-shown f s xs end l₀ l most as-long e =
       rest = rw e (drop-at (map f (steps s (take end xs))) (drop end l₀) end ends);
     }
 
-module _ (once : Bool) (s : Vote) (a b words marks : List ℕ) (l : AsLong a b words marks) where
-  alike : apartPair a b (unequal a words marks) ≡ false
-  alike = rw (eq-eqb (length a) (length b) (l .second-long), eq-eqb (length a) (length words) (l .words-long), eq-eqb (length a) (length marks) (l .marks-long))
+module _ (once : Bool) (s : Vote) (a b : List ℕ) (l l′ : Lent) (long : AsLong a b l) where
+  alike : apartPair a b (unequal a (l .words) (l .marks)) ≡ false
+  alike = rw (eq-eqb _ _ (long .second-long), eq-eqb _ _ (long .words-long), eq-eqb _ _ (long .marks-long))
 
   pub as-taken :
-      (r : VotePart) (words′ marks′ : List ℕ) → Parts once s a b words marks r words′ marks′
-      → Taken once s (zip a b) words marks (r .end) (r .state) true words′ marks′
-  as-taken r words′ marks′ p =
+      (r : VotePart) → Parts once s a b (l .words) (l .marks) r (l′ .words) (l′ .marks) → Taken once s (zip a b) l (r .end) (r .state) true l′
+  as-taken r p =
       let xs = zip a b in
       let is : r ≡ part once s xs = rw alike at (p .answered) in
       let ended : r .end ≡ takenBy once s xs = ap (λ (r : VotePart). r .end) is in
       let most : r .end ≤ length xs = omega (arith, ended, taken-most once s xs) in
-      let long = zip-length a b (l .second-long) in
+      let size = zip-length a b (long .second-long) in
       record {
         counted = omega (arith, ended);
         leaving = rw ended (sym (ap (λ (r : VotePart). r .state) is));
-        in-words = as-shown shownWord s xs (r .end) words words′ most (omega (arith, long, l)) (p .words-after);
-        in-marks = as-shown shownMark s xs (r .end) marks marks′ most (omega (arith, long, l)) (p .marks-after);
+        written = record {
+          in-words = as-shown shownWord s xs (r .end) (l .words) (l′ .words) most (omega (arith, size, long)) (p .words-after);
+          in-marks = as-shown shownMark s xs (r .end) (l .marks) (l′ .marks) most (omega (arith, size, long)) (p .marks-after);
+        };
       }

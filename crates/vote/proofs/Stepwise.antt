@@ -41,7 +41,7 @@ sound-next n s a b reset g e = go (eqb a b) reset (ltb (s .count) (s .need - 1))
   kept : (word count : ℕ) → outside n word ≡ false → count ≤ s .need - 1 → Sound n (record { n = s .n; need = s .need; word = word; count = count })
   kept word count o h = record { width = g .width; counted = g .counted; wide = g .wide; small = h; word-in = o }
 
-  go : (p q r : Bool) → ltb (s .count) (s .need - 1) ≡ r → Sound n (byTests s a p q r .state)
+  go : (p q r : Bool) → ltb (s .count) (s .need - 1) ≡ r → Sound n (byTests s a b p q r .state)
   go true q r h = kept a 0 (or-neither (outside n a) (outside n b) e .0) (omega arith)
   go false true r h = kept (s .word) 0 (g .word-in) (omega arith)
   go false false true h = kept (s .word) (s .count + 1) (g .word-in) (omega (arith, ltb-true (s .count) (s .need - 1) h))

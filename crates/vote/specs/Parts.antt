@@ -5,7 +5,7 @@ use mathlib.Core.Path.{_≡_}
 use mathlib.Core.List.{List, [], _∷_, _++_, map, zip}
 use mathlib.Core.Bool.{Bool, true, false, _&&_}
 use lib.Dec.{eqb}
-use lib.ListN.{length, take, drop}
+use lib.ListN.{length, take, drop, set}
 use Rattle.rules.specs.Choose.{if_then_else_}
 use Rattle.trace.specs.Answers.{apartPair}
 use Rattle.trace.specs.Trace.{left}
@@ -36,11 +36,23 @@ pub record Parts (once : Bool) (s : Vote) (a b words marks : List ℕ) (r : Vote
   pub words-after : words′ ≡ map shownWord (steps s (take (r .end) (zip a b))) ++ drop (r .end) words
   pub marks-after : marks′ ≡ map shownMark (steps s (take (r .end) (zip a b))) ++ drop (r .end) marks
 
+-- the slices that are lent to be written, all in one
+pub record Lent : Type 0 where
+  pub words : List ℕ
+  pub marks : List ℕ
+
+abbrev pub lent : List ℕ → List ℕ → Lent
+lent words marks = record { words = words; marks = marks }
+
+-- what a step shows, stored at i
+abbrev pub stored : Lent → ℕ → VoteStep → Lent
+stored l i t = lent (set (l .words) i (shownWord t)) (set (l .marks) i (shownMark t))
+
 -- the second column and every slice are as long as the first column
-pub record AsLong (a b words marks : List ℕ) : Type 0 where
+pub record AsLong (a b : List ℕ) (l : Lent) : Type 0 where
   pub second-long : length a ≡ length b
-  pub words-long : length a ≡ length words
-  pub marks-long : length a ≡ length marks
+  pub words-long : length a ≡ length (l .words)
+  pub marks-long : length a ≡ length (l .marks)
 
 -- within a loop, what stands in a slice that came as l₀: what the first `end` steps from the state s₀ show, and the rest as it came
 pub record Shown (f : VoteStep → ℕ) (s₀ : Vote) (xs : List (ℕ × ℕ)) (l₀ : List ℕ) (end : ℕ) (l : List ℕ) : Type 0 where
@@ -48,15 +60,17 @@ pub record Shown (f : VoteStep → ℕ) (s₀ : Vote) (xs : List (ℕ × ℕ)) (
   pub shown : take end l ≡ map f (steps s₀ (take end xs))
   pub rest : drop end l ≡ drop end l₀
 
--- the first `end` samples have been taken, and no more are where it is over; the state that they left, and both slices
-pub record Taken (once : Bool) (s₀ : Vote) (xs : List (ℕ × ℕ)) (words₀ marks₀ : List ℕ) (end : ℕ) (s : Vote) (over : Bool) (words marks : List ℕ) : Type 0 where
+-- so every slice
+pub record Written (s₀ : Vote) (xs : List (ℕ × ℕ)) (l₀ : Lent) (end : ℕ) (l : Lent) : Type 0 where
+  pub in-words : Shown shownWord s₀ xs (l₀ .words) end (l .words)
+  pub in-marks : Shown shownMark s₀ xs (l₀ .marks) end (l .marks)
+
+-- the first `end` samples have been taken, and no more are where it is over; the state that they left, and the slices
+pub record Taken (once : Bool) (s₀ : Vote) (xs : List (ℕ × ℕ)) (l₀ : Lent) (end : ℕ) (s : Vote) (over : Bool) (l : Lent) : Type 0 where
   pub counted : takenBy once s₀ xs ≡ end + (if over then 0 else takenBy once s (drop end xs))
   pub leaving : left plain leaves s₀ (take end xs) ≡ s
-  pub in-words : Shown shownWord s₀ xs words₀ end words
-  pub in-marks : Shown shownMark s₀ xs marks₀ end marks
+  pub written : Written s₀ xs l₀ end l
 
 -- whichever run came to sample `from`, the part goes on with it
-abbrev pub GoesOn : Bool → List (ℕ × ℕ) → ℕ → Vote → List ℕ → List ℕ → VoteRow → List ℕ → List ℕ → Type 0
-GoesOn once xs from s words marks r words′ marks′ =
-    (s₀ : Vote) (words₀ marks₀ : List ℕ) → Taken once s₀ xs words₀ marks₀ from s false words marks
-    → Taken once s₀ xs words₀ marks₀ (r .end) (r .state) (r .over) words′ marks′
+abbrev pub GoesOn : Bool → List (ℕ × ℕ) → ℕ → Vote → Lent → VoteRow → Lent → Type 0
+GoesOn once xs from s l r l′ = (s₀ : Vote) (l₀ : Lent) → Taken once s₀ xs l₀ from s false l → Taken once s₀ xs l₀ (r .end) (r .state) (r .over) l′

@@ -7,7 +7,7 @@ ghost use mathlib.Core.List.{zip};
 ghost use mathlib.Core.Bool.{true};
 ghost use Prim.Native.Nat.{_<_, _≤_};
 ghost use lib.ListN.{length, getD};
-ghost use Rattle.vote.specs.Parts.{AsLong, Taken, Parts, GoesOn};
+ghost use Rattle.vote.specs.Parts.{lent, AsLong, Taken, Parts, GoesOn};
 
 // The samples in a row that disagree, from the first of them on: what each shows is written. With `once` an alarm ends it.
 fn write_apart(
@@ -19,12 +19,12 @@ fn write_apart(
     words: &mut [u32],
     marks: &mut [u8],
 ) -> VoteRow
-    requires { ⌜ AsLong (now a) (now b) (now words) (now marks) ⌝ }
+    requires { ⌜ AsLong (now a) (now b) (lent (now words) (now marks)) ⌝ }
     requires { ⌜ from < length (now a) ⌝ }
     requires { ⌜ (getD (now a) from 0 ≡ getD (now b) from 0 → ⊥) ⌝ }
     ensures { λ r. ⌜ (from < r .end) × (r .end ≤ length (now (a .entry))) ⌝ }
-    ensures { λ r. ⌜ GoesOn once (zip (now (a .entry)) (now (b .entry))) from start (now (words .entry)) (now (marks .entry))
-        r (now (words .exit)) (now (marks .exit)) ⌝ }
+    ensures { λ r. ⌜ GoesOn once (zip (now (a .entry)) (now (b .entry))) from start (lent (now (words .entry)) (now (marks .entry)))
+        r (lent (now (words .exit)) (now (marks .exit))) ⌝ }
 {
     let mut state = start;
     let mut i = from;
@@ -69,9 +69,9 @@ pub(crate) fn take_steps(
     words: &mut [u32],
     marks: &mut [u8],
 ) -> VotePart
-    requires { ⌜ AsLong (now a) (now b) (now words) (now marks) ⌝ }
-    ensures { λ r. ⌜ Taken once start (zip (now (a .entry)) (now (b .entry))) (now (words .entry)) (now (marks .entry))
-        (r .end) (r .state) true (now (words .exit)) (now (marks .exit)) ⌝ }
+    requires { ⌜ AsLong (now a) (now b) (lent (now words) (now marks)) ⌝ }
+    ensures { λ r. ⌜ Taken once start (zip (now (a .entry)) (now (b .entry))) (lent (now (words .entry)) (now (marks .entry)))
+        (r .end) (r .state) true (lent (now (words .exit)) (now (marks .exit))) ⌝ }
 {
     let mut state = start;
     let mut i = 0;

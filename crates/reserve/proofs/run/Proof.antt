@@ -10,6 +10,7 @@ use Rattle.trace.specs.Answers.{fourAnswer, longFour, apartFour}
 use Rattle.trace.specs.Samples.{somewhere, outsideFour}
 use Rattle.trace.proofs.Runs.{answer-done}
 use Rattle.vote.specs.Run.{unequal}
+use Rattle.vote.proofs.Parts.{slices-long}
 use Rattle.reserve.specs.declared.Reserve.{Reserve}
 use Rattle.reserve.specs.declared.ReserveMade.{ReserveMade}
 use Rattle.reserve.specs.Reserve.{fresh}
@@ -54,9 +55,8 @@ start c =
 write-steps-requires : tie.Need-write-steps-requires
 write-steps-requires c κs =
     let columns = or-each (or-each (same _ _) (same _ _)) (same _ _) in
-    let slices = or-each (same _ _) (same _ _) in
-    let p = or-each columns slices (fine (c .before .before .before .before) .alike) in
-    (record { second-long = p .0 .0 .0; words-long = p .1 .0; marks-long = p .1 .1 }, ((p .0 .0 .1, p .0 .1), ap (λ (s : Reserve). s .phase) (start (c .before .before .before))))
+    let p = or-each columns (λ e. e) (fine (c .before .before .before .before) .alike) in
+    (slices-long _ _ _ (p .0 .0 .0) (p .1), ((p .0 .0 .1, p .0 .1), ap (λ (s : Reserve). s .phase) (start (c .before .before .before))))
 
 returns-2 : tie.Need-returns-2
 returns-2 c =

@@ -4,8 +4,9 @@ use native.Mathlib.Omega.{arith}
 use Prim.Native.Nat.{_+_}
 use mathlib.Core.Bool.{false}
 use lib.ListN.{length-set}
+use Rattle.vote.specs.Parts.{Lent, lent}
 use Rattle.vote.specs.Run.{shownWord, shownMark}
-use Rattle.vote.proofs.Parts.{stored-long, rests-long, as-taken, whole-run}
+use Rattle.vote.proofs.Parts.{stored-as, stored-long, rests-long, as-taken, whole-run}
 use Rattle.reserve.proofs.Parts.{handed-over}
 use borrow.Author.Needs.{needs}
 use Rattle.reserve.proofs.take_over.Statement.{statement}
@@ -28,13 +29,15 @@ returns c =
     let pre = start-of marked .pre in
     let inside = pre .0 in
     let long = pre .1 in
-    let stored = stored-long (x .over) (worded .word .result) (marked .mark .result) long in
-    let went = as-taken false _ _ _ _ _ (rests-long (x .over + 1) _ _ _ _ stored) _ _ _ (wrote .write-steps .ensures) in
-    let whole = whole-run _ _ _ _ _ _ _ _ went in (
+    let came = lent (x .words .now) (x .marks .now) in
+    let step = taken .clauses .result in
+    let stored = stored-long came (x .over) step (stored-as came (x .over) step (worded .word .ensures) (marked .mark .ensures)) long in
+    let went = as-taken false _ _ _ _ _ (rests-long (x .over + 1) _ _ _ stored) _ (wrote .write-steps .ensures) in
+    let whole = whole-run _ _ _ _ _ _ went in (
       handed-over shownWord (x .alarmed) (x .over) (x .c .now) (x .d .now) (x .words .now) inside (long .second-long) (long .words-long)
-          (taken .clauses .result) (worded .word .result) _ (taken .clauses .ensures) (worded .word .ensures) (whole .0),
+          (taken .clauses .result) (worded .word .result) _ (taken .clauses .ensures) (worded .word .ensures) (whole .words-are),
       handed-over shownMark (x .alarmed) (x .over) (x .c .now) (x .d .now) (x .marks .now) inside (long .second-long) (long .marks-long)
-          (taken .clauses .result) (marked .mark .result) _ (taken .clauses .ensures) (marked .mark .ensures) (whole .1),
+          (taken .clauses .result) (marked .mark .result) _ (taken .clauses .ensures) (marked .mark .ensures) (whole .marks-are),
     )
 
 pub take-over-spec : {M : Type 1} → statement M

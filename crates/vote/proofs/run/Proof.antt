@@ -35,18 +35,18 @@ alike : (c : tie.After-enum-told) → let a = start-of (judged c) .args in
 alike c = answer-done _ _ _ _ _ outsidePair _ (sym (answered (judged c)) ∙ c .enum-told .given .1) .alike
 
 take-steps-requires : tie.Need-take-steps-requires
-take-steps-requires c κs = all-long _ _ _ _ (alike (c .before .before .before))
+take-steps-requires c κs = all-long _ _ _ (alike (c .before .before .before))
 
 returns-2 : tie.Need-returns-2
 returns-2 c =
     let wrote = c .before .before .before .before in
     let f = wrote .before .before .before in
     let ran = f .before .enum-told .given .1 in
-    let whole = whole-run _ _ _ _ _ _ _ _ (wrote .take-steps .ensures) in
+    let whole = whole-run _ _ _ _ _ _ (wrote .take-steps .ensures) in
     record {
       answered = sym ran ∙ answered (judged (f .before));
-      words-after = rw (← f .fresh .ensures) (whole .0);
-      marks-after = rw (← f .fresh .ensures) (whole .1);
+      words-after = rw (← f .fresh .ensures) (whole .words-are);
+      marks-after = rw (← f .fresh .ensures) (whole .marks-are);
     }
 
 pub run-spec : {M : Type 1} → statement M

@@ -7,18 +7,18 @@ use native.Mathlib.Omega.{arith}
 use borrow.Author.Needs.{needs}
 use lib.ListN.{length}
 use Rattle.vote.specs.declared.Vote.{Vote}
-use Rattle.vote.specs.Parts.{AsLong, Taken}
-use Rattle.vote.proofs.Parts.{stored-long, taken-long, told-over, none-taken, all-taken, agreed-taken}
+use Rattle.vote.specs.Parts.{Lent, lent, AsLong, Taken}
+use Rattle.vote.proofs.Parts.{taken-long, told-over, none-taken, all-taken, agreed-taken}
 use Rattle.vote.proofs.columns.take_steps.Statement.{statement}
 use Rattle.vote.proofs.columns.take_steps.Tie as tie
 
-record Going (once : Bool) (a b words₀ marks₀ : List ℕ) (state₀ : Vote) (words marks : List ℕ) (state : Vote) (i : ℕ) : Type 0 where
+record Going (once : Bool) (a b : List ℕ) (l₀ : Lent) (state₀ : Vote) (l : Lent) (state : Vote) (i : ℕ) : Type 0 where
   within : i ≤ length a
-  as-long : AsLong a b words marks
-  taken : Taken once state₀ (zip a b) words₀ marks₀ i state false words marks
+  as-long : AsLong a b l
+  taken : Taken once state₀ (zip a b) l₀ i state false l
 
 abbrev Inv-loop : tie.InvT-loop
-Inv-loop once a b words₀ marks₀ state₀ i₀ words marks state i = Going once a b words₀ marks₀ state₀ words marks state i
+Inv-loop once a b words₀ marks₀ state₀ i₀ words marks state i = Going once a b (lent words₀ marks₀) state₀ (lent words marks) state i
 
 abbrev μ-loop : tie.MeasureT-loop
 μ-loop once a b words₀ marks₀ state₀ i₀ words marks state i = length a - i
@@ -35,41 +35,33 @@ loop-holds c =
     record {
       within = omega arith;
       as-long = long;
-      taken = none-taken (x .once) (x .start) (x .a .now) (x .b .now) (long .second-long) (x .words .now) (x .marks .now) long;
+      taken = none-taken (x .once) (x .start) (x .a .now) (x .b .now) (long .second-long) _ long;
     }
 
 loop-again : tie.Need-loop-again Inv-loop μ-loop
 loop-again c =
     let in-loop = c .before .before .before .before .before in
     let inv = in-loop .before .loop .inv in
-    record {
-      within = omega arith;
-      as-long = stored-long _ _ _ (inv .as-long);
-      taken = rw (c .before .agreed .ensures)
-          (agreed-taken _ _ _ _ (inv .as-long .second-long) _ _ _ _ _ _ (c .before .before .if1 .taken) (in-loop .loop-test .taken) (inv .taken));
-    }
-
-write-apart-requires : tie.Need-write-apart-requires Inv-loop μ-loop
-write-apart-requires c κs =
-    let in-loop = c .before .before .before .before .before in
-    (in-loop .before .loop .inv .as-long, (in-loop .loop-test .taken, c .before .before .if1 .left))
+    let ab = inv .as-long .second-long in
+    let on = agreed-taken _ _ _ _ ab _ _ _ _ (c .before .before .if1 .taken) (in-loop .loop-test .taken) (inv .taken) in
+    record { within = omega arith; as-long = taken-long _ _ ab on; taken = rw (c .before .agreed .ensures) on }
 
 returns : tie.Need-returns Inv-loop μ-loop
 returns c =
     let row = c .before .before .before .before .before .before in
-    told-over (c .if2 .taken) (row .write-apart .ensures .1 _ _ _ (loop-of row .before .loop .inv .taken))
+    told-over (c .if2 .taken) (row .write-apart .ensures .1 _ _ (loop-of row .before .loop .inv .taken))
 
 loop-again-2 : tie.Need-loop-again-2 Inv-loop μ-loop
 loop-again-2 c =
     let row = c .before .before .before .before .before .before in
     let inv = loop-of row .before .loop .inv in
-    let on = told-over (c .if2 .left) (row .write-apart .ensures .1 _ _ _ (inv .taken)) in
-    record { within = row .write-apart .ensures .0 .1; as-long = taken-long (inv .as-long .second-long) on; taken = on }
+    let on = told-over (c .if2 .left) (row .write-apart .ensures .1 _ _ (inv .taken)) in
+    record { within = row .write-apart .ensures .0 .1; as-long = taken-long _ _ (inv .as-long .second-long) on; taken = on }
 
 returns-2 : tie.Need-returns-2 Inv-loop μ-loop
 returns-2 c =
     let inv = c .before .loop .inv in
-    all-taken _ _ _ _ (inv .as-long .second-long) _ _ _ _ _ _ (c .loop-test .left) (inv .taken)
+    all-taken _ _ _ _ (inv .as-long .second-long) _ _ _ _ (c .loop-test .left) (inv .taken)
 
 pub take-steps-spec : {M : Type 1} → statement M
 take-steps-spec =
@@ -89,7 +81,7 @@ take-steps-spec =
     (λ c. omega arith)
     (λ c. omega arith)
     loop-again
-    write-apart-requires
+    (λ c κs. search needs)
     (λ c. omega arith)
     (λ c. omega arith)
     returns

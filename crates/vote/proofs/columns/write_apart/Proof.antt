@@ -11,19 +11,20 @@ use lib.Dec.{eqb}
 use lib.ListN.{length, getD, set, length-set}
 use Rattle.vote.specs.declared.Vote.{Vote}
 use Rattle.vote.specs.declared.VoteRow.{VoteRow}
-use Rattle.vote.specs.Parts.{AsLong, GoesOn}
-use Rattle.vote.proofs.Parts.{stored-long, one-taken}
+use Rattle.vote.specs.declared.VoteStep.{VoteStep}
+use Rattle.vote.specs.Parts.{Lent, lent, stored, AsLong, GoesOn}
+use Rattle.vote.proofs.Parts.{stored-as, stored-long, one-taken}
 use Rattle.vote.proofs.columns.write_apart.Statement.{statement}
 use Rattle.vote.proofs.columns.write_apart.Tie as tie
 
-record Going (once : Bool) (from : ℕ) (a b words₀ marks₀ : List ℕ) (state₀ : Vote) (words marks : List ℕ) (state : Vote) (i : ℕ) : Type 0 where
+record Going (once : Bool) (from : ℕ) (a b : List ℕ) (l₀ : Lent) (state₀ : Vote) (l : Lent) (state : Vote) (i : ℕ) : Type 0 where
   begun : from ≤ i
   within : i ≤ length a
-  as-long : AsLong a b words marks
-  goes-on : GoesOn once (zip a b) from state₀ words₀ marks₀ (record { state = state; end = i; over = false }) words marks
+  as-long : AsLong a b l
+  goes-on : GoesOn once (zip a b) from state₀ l₀ (record { state = state; end = i; over = false }) l
 
 abbrev Inv-loop : tie.InvT-loop
-Inv-loop once from a b words₀ marks₀ state₀ i₀ words marks state i = Going once from a b words₀ marks₀ state₀ words marks state i
+Inv-loop once from a b words₀ marks₀ state₀ i₀ words marks state i = Going once from a b (lent words₀ marks₀) state₀ (lent words marks) state i
 
 abbrev μ-loop : tie.MeasureT-loop
 μ-loop once from a b words₀ marks₀ state₀ i₀ words marks state i = length a - i
@@ -38,7 +39,7 @@ loop-of c = c .before .before .before .before .before .before .before .before .b
 loop-holds : tie.Need-loop-holds Inv-loop μ-loop
 loop-holds c =
     let pre = c .before .before .before .before .pre in
-    record { begun = omega arith; within = omega arith; as-long = pre .0; goes-on = λ s₀ w m p. p }
+    record { begun = omega arith; within = omega arith; as-long = pre .0; goes-on = λ s₀ l₀ p. p }
 
 -- the row has a first sample, so that samples which agree stand past it
 past-first : (c : tie.At-loop Inv-loop μ-loop) → let x = start-of c .args in let i = c .loop .i in
@@ -55,29 +56,45 @@ returns c =
     let inv = at-loop .loop .inv in
     ((past-first at-loop (c .if1 .taken), inv .within), inv .goes-on)
 
--- the step that the clauses take on sample i
-more-taken : (c : tie.After-word Inv-loop μ-loop) → let at-loop = loop-of c .before in let l = at-loop .loop in let x = start-of at-loop .args in
-    let m = c .before .before .mark .result in
-    let next : VoteRow = record { state = c .before .before .before .clauses .result .state; end = l .i + 1; over = x .once && eqb m 2 } in
-    GoesOn (x .once) (zip (x .a .now) (x .b .now)) (x .from) (x .start) (x .words .now) (x .marks .now) next (set (l .words) (l .i) (c .word .result)) (set (l .marks) (l .i) m)
-more-taken c s₀ words₀ marks₀ p =
-    let taken = c .before .before .before .clauses in
-    let marked = c .before .before .mark in
-    let inv = loop-of c .before .loop .inv in
-    one-taken _ s₀ _ _ (inv .as-long .second-long) words₀ marks₀ _ _ _ _ (taken .result) _ _ (taken .ensures) (c .word .ensures) (marked .ensures)
-    (loop-of c .loop-test .taken) (inv .goes-on s₀ words₀ marks₀ p)
+-- the step that the clauses take on sample i, the slices before it, and with what is stored of it
+module _ (c : tie.After-word Inv-loop μ-loop) where
+  abbrev at-loop : tie.At-loop Inv-loop μ-loop
+  at-loop = loop-of c .before
+
+  abbrev step : VoteStep
+  step = c .before .before .before .clauses .result
+
+  abbrev slices : Lent
+  slices = let l = at-loop .loop in lent (l .words) (l .marks)
+
+  abbrev written : Lent
+  written = let l = at-loop .loop in lent (set (l .words) (l .i) (c .word .result)) (set (l .marks) (l .i) (c .before .before .mark .result))
+
+  is-stored : written ≡ stored slices (at-loop .loop .i) step
+  is-stored = stored-as slices (at-loop .loop .i) step (c .word .ensures) (c .before .before .mark .ensures)
+
+  more-long : let x = start-of at-loop .args in AsLong (x .a .now) (x .b .now) written
+  more-long = stored-long slices (at-loop .loop .i) step is-stored (at-loop .loop .inv .as-long)
+
+  more-taken : let x = start-of at-loop .args in
+      let next : VoteRow = record { state = step .state; end = at-loop .loop .i + 1; over = x .once && eqb (c .before .before .mark .result) 2 } in
+      GoesOn (x .once) (zip (x .a .now) (x .b .now)) (x .from) (x .start) (lent (x .words .now) (x .marks .now)) next written
+  more-taken s₀ l₀ p =
+      let inv = at-loop .loop .inv in
+      one-taken _ s₀ _ _ (inv .as-long .second-long) l₀ slices _ _ step _ _ (c .before .before .before .clauses .ensures) (c .before .before .mark .ensures) is-stored
+      (loop-of c .loop-test .taken) (inv .goes-on s₀ l₀ p)
 
 returns-2 : tie.Need-returns-2 Inv-loop μ-loop
 returns-2 c = ((omega arith, omega arith), more-taken (c .before))
 
 loop-again : tie.Need-loop-again Inv-loop μ-loop
 loop-again c =
-    let inv = loop-of (c .before) .before .loop .inv in
+    let d = c .before in
     record {
       begun = omega arith;
       within = omega arith;
-      as-long = stored-long _ _ _ (inv .as-long);
-      goes-on = λ s₀ w m p. rw (c .if2 .left) at (more-taken (c .before) s₀ w m p);
+      as-long = more-long d;
+      goes-on = λ s₀ l₀ p. rw (c .if2 .left) at (more-taken d s₀ l₀ p);
     }
 
 returns-3 : tie.Need-returns-3 Inv-loop μ-loop
