@@ -8,13 +8,13 @@ use mathlib.Core.Bool.{Bool, true, false, false≢true}
 use Prim.Native.Nat.{ℕ}
 use native.Mathlib.Omega.{arith}
 use lib.Dec.{eqb}
+use borrow.Author.Tests.{eq-eqb, eqb-true}
 use Rattle.rules.specs.Choose.{if_then_else_}
 use Rattle.rules.specs.Table.{first}
 use Rattle.trace.proofs.Steps.{alike, trace-append}
 use Rattle.vote.specs.Answers.{markOf}
 use Rattle.vote.specs.Vote as vote
 use Rattle.vote.specs.declared.VoteAnswer.{VoteAnswer}
-use Rattle.vote.specs.declared.VoteAnswer.the-variants.{Agreed, Held, Alarm, Refused}
 use Rattle.vote.proofs.Clauses.{reset-silent, same-sizes as vote-sizes}
 use Rattle.reserve.specs.HandOver.{handedOver, Alike, AllAlike}
 use Rattle.reserve.specs.declared.Phase.{Phase}
@@ -22,7 +22,7 @@ use Rattle.reserve.specs.declared.Phase.the-variants.{Primary, TakingOve
 use Rattle.reserve.specs.declared.Reserve.{Reserve}
 use Rattle.reserve.specs.declared.ReserveStep.{ReserveStep}
 use Rattle.reserve.specs.Reserve.{phaseAfter, inPhase, clauses, notTaken, stepOf, rowsOf}
-use Rattle.reserve.proofs.Clauses.{either-pair}
+use Rattle.reserve.proofs.Clauses.{phase-is, either-pair}
 use Rattle.reserve.specs.Run.{leaves, Sample, stepped, publicStep, steps, publicSteps, leftBy, leftByPublic, shownMark}
 
 -- the three phases in their order
@@ -32,16 +32,16 @@ place TakingOver = 1
 place Reserved = 2
 
 over-on-alarm : (v : VoteAnswer) → (phaseAfter v ≡ TakingOver) ↔ (markOf v ≡ 2)
-over-on-alarm (Agreed w) = (λ e. omega (arith, ap place e), λ e. absurd (omega arith))
-over-on-alarm (Held w) = (λ e. omega (arith, ap place e), λ e. absurd (omega arith))
-over-on-alarm (Alarm w) = (λ e. refl, λ e. refl)
-over-on-alarm (Refused k) = (λ e. omega (arith, ap place e), λ e. absurd (omega arith))
+over-on-alarm v = rw (phase-is v) (go (eqb (markOf v) 2) refl) where
+  go : (alarm : Bool) → eqb (markOf v) 2 ≡ alarm → ((if alarm then TakingOver else Primary) ≡ TakingOver) ↔ (markOf v ≡ 2)
+  go true q = (λ e. eqb-true _ _ q, λ e. refl)
+  go false q = (λ e. omega (arith, ap place e), λ e. absurd (false≢true (sym q ∙ eq-eqb _ _ e)))
 
 primary-or-over : (v : VoteAnswer) → phaseAfter v ≡ Reserved → ⊥
-primary-or-over (Agreed w) e = omega (arith, ap place e)
-primary-or-over (Held w) e = omega (arith, ap place e)
-primary-or-over (Alarm w) e = omega (arith, ap place e)
-primary-or-over (Refused k) e = omega (arith, ap place e)
+primary-or-over v = rw (phase-is v) (go (eqb (markOf v) 2)) where
+  go : (alarm : Bool) → (if alarm then TakingOver else Primary) ≡ Reserved → ⊥
+  go true e = omega (arith, ap place e)
+  go false e = omega (arith, ap place e)
 
 module _ (s : Reserve) (x : Sample) where
   -- from Primary the next phase is TakingOver exactly on an alarm, and Reserve never

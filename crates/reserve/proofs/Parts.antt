@@ -19,7 +19,6 @@ use Rattle.vote.specs.Run as voteRun
 use Rattle.vote.specs.Vote as vote
 use Rattle.vote.specs.declared.Vote.{Vote}
 use Rattle.vote.specs.declared.VoteAnswer.{VoteAnswer}
-use Rattle.vote.specs.declared.VoteAnswer.the-variants.{Agreed, Held, Alarm, Refused}
 use Rattle.vote.specs.declared.VotePart.{VotePart}
 use Rattle.vote.specs.declared.VoteStep.{VoteStep}
 use Rattle.vote.proofs.Parts.{as-taken}
@@ -27,18 +26,13 @@ use Rattle.reserve.specs.declared.Phase.{Phase}
 use Rattle.reserve.specs.declared.Phase.the-variants.{Primary, TakingOver, Reserve as Reserved}
 use Rattle.reserve.specs.declared.Reserve.{Reserve}
 use Rattle.reserve.specs.declared.ReserveStep.{ReserveStep}
-use Rattle.reserve.specs.Parts.{tookOver}
-use Rattle.reserve.specs.Reserve.{phaseAfter, clauses}
-use Rattle.reserve.specs.Run.{steps, samplesOf, shownWord, shownMark}
+use Rattle.reserve.specs.Parts.{tookOver, TookOver, Wrote}
+use Rattle.reserve.specs.Reserve.{clauses}
+use Rattle.reserve.specs.Run.{steps, samplesOf}
+use Rattle.reserve.proofs.Clauses.{phase-is}
 
 abbrev state-in : Phase → Vote → Reserve
 state-in p v = record { phase = p; vote = v }
-
-phase-is : (r : VoteAnswer) → phaseAfter r ≡ (if eqb (markOf r) 2 then TakingOver else Primary)
-phase-is (Agreed w) = refl
-phase-is (Held w) = refl
-phase-is (Alarm w) = refl
-phase-is (Refused k) = refl
 
 -- g is what a slice shows of an answer; us and vs are the samples of the two pairs
 module _ (g : VoteAnswer → ℕ) where
@@ -120,10 +114,10 @@ module _
       → take (r .end) l ++ map (ofVote g) (tookOver (r .state) (drop (r .end) (zip c d))) ≡ map (ofReserve g) (steps s (samplesOf a b c d))
   in-two g q = rw (q .shown) (shown g)
 
-  pub in-parts-shown :
-      (take (r .end) (l .words) ++ map voteRun.shownWord (tookOver (r .state) (drop (r .end) (zip c d))) ≡ map shownWord (steps s (samplesOf a b c d)))
-      × (take (r .end) (l .marks) ++ map voteRun.shownMark (tookOver (r .state) (drop (r .end) (zip c d))) ≡ map shownMark (steps s (samplesOf a b c d)))
-  in-parts-shown = (in-two wordOf (taken .written .in-words), in-two markOf (taken .written .in-marks))
+  pub in-parts-shown : (words′ marks′ : List ℕ) → TookOver (r .state) (r .end) c d (l .words) (l .marks) words′ marks′ → Wrote s a b c d words′ marks′
+  in-parts-shown words′ marks′ o =
+      let w = taken .written in
+      record { words-after = o .words-after ∙ in-two wordOf (w .in-words); marks-after = o .marks-after ∙ in-two markOf (w .in-marks) }
 
   -- without a hand-over before the end, units 1 and 2 are all
   module _ (all : length a ≤ r .end) where
@@ -133,8 +127,8 @@ module _
         let past : length (zip c d) ≤ r .end = omega (arith, zip-length c d (omega arith)) in
         rw (drop-of-length-le (zip c d) past, take-all (r .end) l (omega (arith, q .long, as-long)), append-nil) at (in-two g q)
 
-    pub in-one-shown : (l .words ≡ map shownWord (steps s (samplesOf a b c d))) × (l .marks ≡ map shownMark (steps s (samplesOf a b c d)))
-    in-one-shown = (in-one wordOf (taken .written .in-words), in-one markOf (taken .written .in-marks))
+    pub in-one-shown : Wrote s a b c d (l .words) (l .marks)
+    in-one-shown = let w = taken .written in record { words-after = in-one wordOf (w .in-words); marks-after = in-one markOf (w .in-marks) }
 
 -- the rest of a slice is put in the place of all that stands from k on
 put-rest : (k : ℕ) (l m : List ℕ) → k ≤ length l → putMid k (length l - k) l m ≡ take k l ++ m

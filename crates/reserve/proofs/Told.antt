@@ -11,12 +11,12 @@ use Rattle.trace.specs.Trace.{trace}
 use Rattle.vote.specs.Answers.{markOf}
 use Rattle.vote.specs.Vote as vote
 use Rattle.vote.specs.declared.VoteAnswer.{VoteAnswer}
-use Rattle.vote.specs.declared.VoteAnswer.the-variants.{Agreed, Held, Alarm, Refused}
 use Rattle.reserve.specs.Reserve.{fresh, phaseAfter, inPhase, clauses}
 use Rattle.reserve.specs.Run.{Sample, stepped, leaves, steps, shownMark, shownPair}
 use Rattle.reserve.specs.declared.Phase.{Phase}
 use Rattle.reserve.specs.declared.Phase.the-variants.{Primary, TakingOver, Reserve as Reserved}
 use Rattle.reserve.specs.declared.Reserve.{Reserve}
+use Rattle.reserve.proofs.Clauses.{phase-is}
 use Rattle.reserve.specs.Pairs.{told, toldPair, nextPair, pairsOf, pairsIn}
 
 -- the pair in force
@@ -26,10 +26,10 @@ inForce TakingOver = 2
 inForce Reserved = 2
 
 handed : (x : VoteAnswer) → inForce (phaseAfter x) ≡ (if eqb (markOf x) 2 then 2 else 1)
-handed (Agreed w) = refl
-handed (Held w) = refl
-handed (Alarm w) = refl
-handed (Refused k) = refl
+handed x = rw (phase-is x) (go (eqb (markOf x) 2)) where
+  go : (alarm : Bool) → inForce (if alarm then TakingOver else Primary) ≡ (if alarm then 2 else 1)
+  go true = refl
+  go false = refl
 
 module _ (s : Reserve) (x : Sample) where
   pair-voted : shownPair (stepped s x) ≡ inForce (s .phase)

@@ -6,15 +6,13 @@ use vote::Vote;
 use vote::VoteAnswer;
 use vote::VoteStep;
 ghost use mathlib.Core.Path.{_≡_};
-ghost use mathlib.Core.List.{_++_, map, zip};
 ghost use Prim.Native.Nat.{_<_};
-ghost use lib.ListN.{length, take, drop};
+ghost use lib.ListN.{length};
 ghost use Rattle.rules.specs.Limits.{defaultWord};
 ghost use Rattle.vote.specs.Parts.{lent, AsLong};
-ghost use Rattle.vote.specs.Run as voteRun;
-ghost use Rattle.reserve.specs.Parts.{tookOver};
+ghost use Rattle.reserve.specs.Parts.{TookOver, Wrote};
 ghost use Rattle.reserve.specs.Reserve.{phaseAfter, firstPair, secondPair, clauses, madeOf, stepOf};
-ghost use Rattle.reserve.specs.Run.{steps, shownWord, shownMark, samplesOf, Ran};
+ghost use Rattle.reserve.specs.Run.{Ran};
 
 // Which pair is in force: units 1 and 2; units 3 and 4 with a reset, for one step; units 3 and 4 for ever.
 pub enum Phase {
@@ -143,10 +141,8 @@ impl Reserve {
 fn take_over(alarmed: Vote, over: usize, c: &[u32], d: &[u32], words: &mut [u32], marks: &mut [u8])
     requires { ⌜ over < length (now c) ⌝ }
     requires { ⌜ AsLong (now c) (now d) (lent (now words) (now marks)) ⌝ }
-    ensures { λ _. ⌜ now (words .exit) ≡
-        take over (now (words .entry)) ++ map voteRun.shownWord (tookOver alarmed (drop over (zip (now (c .entry)) (now (d .entry))))) ⌝ }
-    ensures { λ _. ⌜ now (marks .exit) ≡
-        take over (now (marks .entry)) ++ map voteRun.shownMark (tookOver alarmed (drop over (zip (now (c .entry)) (now (d .entry))))) ⌝ }
+    ensures { λ _. ⌜ TookOver alarmed over (now (c .entry)) (now (d .entry)) (now (words .entry)) (now (marks .entry))
+        (now (words .exit)) (now (marks .exit)) ⌝ }
 {
     let taken = alarmed.clauses(c[over], d[over], true);
     let answer = taken.answer;
@@ -177,10 +173,8 @@ fn write_steps(
     requires { ⌜ AsLong (now a) (now b) (lent (now words) (now marks)) ⌝ }
     requires { ⌜ (length (now a) ≡ length (now c)) × (length (now a) ≡ length (now d)) ⌝ }
     requires { ⌜ start .phase ≡ Phase.Primary ⌝ }
-    ensures { λ _. ⌜ now (words .exit) ≡
-        map shownWord (steps start (samplesOf (now (a .entry)) (now (b .entry)) (now (c .entry)) (now (d .entry)))) ⌝ }
-    ensures { λ _. ⌜ now (marks .exit) ≡
-        map shownMark (steps start (samplesOf (now (a .entry)) (now (b .entry)) (now (c .entry)) (now (d .entry)))) ⌝ }
+    ensures { λ _. ⌜ Wrote start (now (a .entry)) (now (b .entry)) (now (c .entry)) (now (d .entry))
+        (now (words .exit)) (now (marks .exit)) ⌝ }
 {
     let primary = vote::columns::write_steps(start.vote, true, a, b, words, marks);
     let over = primary.end;

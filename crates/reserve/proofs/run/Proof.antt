@@ -65,8 +65,8 @@ returns-2 c =
     let ran = made .before .enum-told .given .1 in
     record {
       answered = sym ran ∙ answered (judged (made .before));
-      words-after = rw (← start made) (wrote .write-steps .ensures .0);
-      marks-after = rw (← start made) (wrote .write-steps .ensures .1);
+      words-after = rw (← start made) (wrote .write-steps .ensures .words-after);
+      marks-after = rw (← start made) (wrote .write-steps .ensures .marks-after);
     }
 
 pub run-spec : {M : Type 1} → statement M

@@ -33,12 +33,13 @@ returns c =
     let step = taken .clauses .result in
     let stored = stored-long came (x .over) step (stored-as came (x .over) step (worded .word .ensures) (marked .mark .ensures)) long in
     let went = as-taken false _ _ _ _ _ (rests-long (x .over + 1) _ _ _ stored) _ (wrote .write-steps .ensures) in
-    let whole = whole-run _ _ _ _ _ _ went in (
-      handed-over shownWord (x .alarmed) (x .over) (x .c .now) (x .d .now) (x .words .now) inside (long .second-long) (long .words-long)
-          (taken .clauses .result) (worded .word .result) _ (taken .clauses .ensures) (worded .word .ensures) (whole .words-are),
-      handed-over shownMark (x .alarmed) (x .over) (x .c .now) (x .d .now) (x .marks .now) inside (long .second-long) (long .marks-long)
-          (taken .clauses .result) (marked .mark .result) _ (taken .clauses .ensures) (marked .mark .ensures) (whole .marks-are),
-    )
+    let whole = whole-run _ _ _ _ _ _ went in
+    record {
+      words-after = handed-over shownWord (x .alarmed) (x .over) (x .c .now) (x .d .now) (x .words .now) inside (long .second-long) (long .words-long)
+          (taken .clauses .result) (worded .word .result) _ (taken .clauses .ensures) (worded .word .ensures) (whole .words-are);
+      marks-after = handed-over shownMark (x .alarmed) (x .over) (x .c .now) (x .d .now) (x .marks .now) inside (long .second-long) (long .marks-long)
+          (taken .clauses .result) (marked .mark .result) _ (taken .clauses .ensures) (marked .mark .ensures) (whole .marks-are);
+    }
 
 pub take-over-spec : {M : Type 1} → statement M
 take-over-spec =

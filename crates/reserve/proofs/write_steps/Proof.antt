@@ -1,5 +1,4 @@
 -- `reserve::write_steps` meets its contract: units 1 and 2 up to their first alarm, and units 3 and 4 from the hand-over on.
-use mathlib.Core.Path.{_∙_}
 use Rattle.reserve.proofs.Parts.{in-parts-shown, in-one-shown}
 use borrow.Author.Needs.{needs}
 use Rattle.reserve.proofs.write_steps.Statement.{statement}
@@ -15,9 +14,7 @@ returns c =
     let wrote = handed .before .before .before .before .before .before .before .before in
     let x = start-of wrote .args in
     let pre = start-of wrote .pre in
-    let over = handed .take-over .ensures in
-    let both = in-parts-shown (x .start) (pre .1 .1) _ _ _ _ _ _ (pre .0) (pre .1 .0 .0) (pre .1 .0 .1) (wrote .write-steps .ensures) in
-    (over .0 ∙ both .0, over .1 ∙ both .1)
+    in-parts-shown (x .start) (pre .1 .1) _ _ _ _ _ _ (pre .0) (pre .1 .0 .0) (pre .1 .0 .1) (wrote .write-steps .ensures) _ _ (handed .take-over .ensures)
 
 returns-2 : tie.Need-returns-2
 returns-2 c =
