@@ -4,7 +4,7 @@ use native.Mathlib.Omega.{arith}
 use Prim.Native.Nat.{_+_}
 use mathlib.Core.Bool.{false}
 use lib.ListN.{length-set}
-use Rattle.vote.specs.Parts.{Lent, lent}
+use Rattle.vote.specs.Parts.{lent}
 use Rattle.vote.specs.Run.{shownWord, shownMark}
 use Rattle.vote.proofs.Parts.{stored-as, stored-long, rests-long, as-taken, whole-run}
 use Rattle.reserve.proofs.Parts.{handed-over}
