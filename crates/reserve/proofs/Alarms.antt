@@ -22,7 +22,7 @@ use Rattle.vote.specs.Vote as vote
 use Rattle.vote.specs.declared.Vote.{Vote}
 use Rattle.vote.proofs.Alarms.{alarm-exactly}
 use Rattle.vote.proofs.Clauses.{reset-silent, reset-fresh, same-sizes}
-use Rattle.reserve.specs.Alarms.{FirstAlarm, ReserveAlarm, AlarmsAt}
+use Rattle.reserve.specs.Alarms.{FirstAlarm, AlarmsAt}
 use Rattle.reserve.specs.Parts.{tookOver}
 use Rattle.reserve.specs.Reserve.{fresh}
 use Rattle.reserve.specs.Run.{steps, shownMark}

@@ -13,7 +13,6 @@ use Rattle.trace.specs.Samples.{outsidePair}
 use Rattle.trace.specs.declared.RunAnswer.the-variants.{Done}
 use Rattle.trace.proofs.Samples.{nowhere}
 use Rattle.trace.proofs.Steps.{agree}
-use Rattle.confirm.specs.Confirm as confirm
 use Rattle.tuple.specs.declared.Tuple.{Tuple}
 use Rattle.tuple.specs.Tuple.{width, miscounted, badState, fresh, clauses, made, notMade, madeOf, earlyRows, notTaken, stepOf}
 use Rattle.tuple.specs.Run.{leaves, stepped, publicStep, steps, publicSteps, shownWord, shownMask, shownMark, Ran, Stepwise}

@@ -1,9 +1,9 @@
 -- Steps over the first samples of two columns, without resets: how many are taken, and what stands written for them.
--- From `AsLong` on it serves proofs only.
+-- From `Lent` on it serves proofs only.
 use Prim.Native.Nat.{ℕ, suc, _+_}
 use mathlib.Core.Path.{_≡_}
 use mathlib.Core.List.{List, [], _∷_, _++_, map, zip}
-use mathlib.Core.Bool.{Bool, true, false, _&&_}
+use mathlib.Core.Bool.{Bool, false, _&&_}
 use lib.Dec.{eqb}
 use lib.ListN.{length, take, drop, set}
 use Rattle.rules.specs.Choose.{if_then_else_}

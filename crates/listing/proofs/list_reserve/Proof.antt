@@ -1,5 +1,5 @@
 -- `list_reserve` meets its contract: the run is accepted, and the pairs are told from its marks.
-use mathlib.Core.Path.{sym, _∙_}
+use mathlib.Core.Path.{_∙_}
 use borrow.Author.Needs.{needs}
 use Rattle.reserve.proofs.Told.{pairs-told, pairs-in}
 use Rattle.listing.proofs.Accepts.{reserve-shown}

@@ -1,5 +1,4 @@
 -- `vote::columns::take_steps` meets its contract. The invariant: the samples before i have been taken from the start.
-use mathlib.Core.Path.{_≡_}
 use mathlib.Core.List.{List, zip}
 use mathlib.Core.Bool.{Bool, false}
 use Prim.Native.Nat.{ℕ, _-_, _≤_}
