@@ -1,5 +1,5 @@
--- The examples of demand 3: one that reaches the age bound, and for each premise one that breaks it alone.
--- All but `slow` serve proofs only: a statement says that there is an example, and not which.
+-- Serves proofs only, but for `slow`: the examples of demand 3, one that reaches the age bound, and for each premise one that
+-- breaks it alone. A statement says that there is an example, and not which.
 use Prim.Native.Nat.{ℕ}
 use mathlib.Core.List.{List, [], _∷_}
 use Rattle.plant.specs.Film.{Film}

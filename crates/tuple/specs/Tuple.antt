@@ -71,7 +71,7 @@ voters n need agreed counts a b =
 abbrev pub votersOf : Tuple → ℕ → ℕ → Voters
 votersOf s a b = voters (width s) (voteNeed s) (s .agreed) (s .counts) a b
 
--- the state s with what a step changes of it: today all that it has
+-- the state s after a step: the fields that a step changes, here all of them
 abbrev pub changed : Tuple → Confirm → ℕ → List ℕ → Tuple
 changed s confirm agreed counts = record { confirm = confirm; agreed = agreed; counts = counts }
 

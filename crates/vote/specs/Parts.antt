@@ -1,5 +1,5 @@
--- Steps over the first samples of two columns, without resets: how many are taken, and what stands written for them.
--- From `Lent` on it serves proofs only.
+-- From `Lent` on it serves proofs only. Before: steps over the first samples of two columns, without resets, how many are
+-- taken, and what stands written for them.
 use Prim.Native.Nat.{ℕ, suc, _+_}
 use mathlib.Core.Path.{_≡_}
 use mathlib.Core.List.{List, [], _∷_, _++_, map, zip}

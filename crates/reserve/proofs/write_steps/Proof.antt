@@ -12,16 +12,14 @@ returns : tie.Need-returns
 returns c =
     let handed = c .before .before .before .before in
     let wrote = handed .before .before .before .before .before .before .before .before in
-    let x = start-of wrote .args in
-    let pre = start-of wrote .pre in
-    in-parts-shown (x .start) (pre .1 .1) _ _ _ _ _ _ (pre .0) (pre .1 .0 .0) (pre .1 .0 .1) (wrote .write-steps .ensures) _ _ (handed .take-over .ensures)
+    let (long, ((as-c, as-d), primary)) = start-of wrote .pre in
+    in-parts-shown _ primary _ _ _ _ _ _ long as-c as-d (wrote .write-steps .ensures) _ _ (handed .take-over .ensures)
 
 returns-2 : tie.Need-returns-2
 returns-2 c =
     let wrote = c .before .before .before .before .before in
-    let x = start-of wrote .args in
-    let pre = start-of wrote .pre in
-    in-one-shown (x .start) (pre .1 .1) _ _ _ _ _ _ (pre .0) (pre .1 .0 .0) (pre .1 .0 .1) (wrote .write-steps .ensures) (c .if1 .left)
+    let (long, ((as-c, as-d), primary)) = start-of wrote .pre in
+    in-one-shown _ primary _ _ _ _ _ _ long as-c as-d (wrote .write-steps .ensures) (c .if1 .left)
 
 pub write-steps-spec : {M : Type 1} → statement M
 write-steps-spec =

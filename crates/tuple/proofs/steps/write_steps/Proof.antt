@@ -46,6 +46,9 @@ start-of c = c .before .before .before .before .before .before .before .before
 abbrev loop-of : tie.After-step-sample Inv-loop μ-loop → tie.In-loop Inv-loop μ-loop
 loop-of c = c .before .before .before .before
 
+abbrev made-of : tie.In-loop Inv-loop μ-loop → tie.After-counts Inv-loop μ-loop
+made-of c = c .before .before
+
 abbrev started : tie.After-counts Inv-loop μ-loop → Tuple
 started c = let x = start-of c .args in fresh (x .n) (x .need) (x .word)
 
@@ -77,8 +80,8 @@ step-sample-requires c κs =
     let in-loop = c .before .before .before in
     let l = in-loop .before .loop in
     let inv = l .inv in
-    let s = changed (started (in-loop .before .before)) (l .confirm) (l .agreed) (l .counts) in
-    let inside = accepted (in-loop .before .before) .first-inside (l .i) (in-loop .loop-test .taken) in
+    let s = changed (started (made-of in-loop)) (l .confirm) (l .agreed) (l .counts) in
+    let inside = accepted (made-of in-loop) .first-inside (l .i) (in-loop .loop-test .taken) in
     ((wide _ _ s (inv .sound) (inv .votes), inv .counts-long), (inside, rests _ _ s (inv .sound) (inv .votes) (l .waiting) (inv .rest)))
 
 loop-again : tie.Need-loop-again Inv-loop μ-loop
@@ -89,9 +92,9 @@ loop-again c =
     let l = in-loop .before .loop in
     let inv = l .inv in
     let more = in-loop .loop-test .taken in
-    let t = taken _ _ (changed (started (in-loop .before .before)) (l .confirm) (l .agreed) (l .counts)) (inv .sound) (inv .votes) (inv .counts-long) _ _
+    let t = taken _ _ (changed (started (made-of in-loop)) (l .confirm) (l .agreed) (l .counts)) (inv .sound) (inv .votes) (inv .counts-long) _ _
     (voted .step-sample .result) _ (voted .step-sample .ensures) (decided .result) (decided .ensures) in
-    let inside = accepted (in-loop .before .before) .first-inside (l .i) more in
+    let inside = accepted (made-of in-loop) .first-inside (l .i) more in
     record {
       within = omega arith;
       few = inv .few;

@@ -45,14 +45,18 @@ loop-again c =
     let on = agreed-taken _ _ _ _ ab _ _ _ _ (c .before .before .if1 .taken) (in-loop .loop-test .taken) (inv .taken) in
     record { within = omega arith; as-long = taken-long _ _ ab on; taken = rw (c .before .agreed .ensures) on }
 
+-- the row, from where its end has been taken over
+abbrev row-of : tie.After-state2 Inv-loop μ-loop → tie.After-write-apart Inv-loop μ-loop
+row-of c = c .before .before .before .before .before
+
 returns : tie.Need-returns Inv-loop μ-loop
 returns c =
-    let row = c .before .before .before .before .before .before in
+    let row = row-of (c .before) in
     told-over (c .if2 .taken) (row .write-apart .ensures .1 _ _ (loop-of row .before .loop .inv .taken))
 
 loop-again-2 : tie.Need-loop-again-2 Inv-loop μ-loop
 loop-again-2 c =
-    let row = c .before .before .before .before .before .before in
+    let row = row-of (c .before) in
     let inv = loop-of row .before .loop .inv in
     let on = told-over (c .if2 .left) (row .write-apart .ensures .1 _ _ (inv .taken)) in
     record { within = row .write-apart .ensures .0 .1; as-long = taken-long _ _ (inv .as-long .second-long) on; taken = on }

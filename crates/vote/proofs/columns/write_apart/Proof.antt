@@ -61,27 +61,33 @@ module _ (c : tie.After-word Inv-loop μ-loop) where
   abbrev at-loop : tie.At-loop Inv-loop μ-loop
   at-loop = loop-of c .before
 
+  abbrev marked : tie.After-mark Inv-loop μ-loop
+  marked = c .before .before
+
+  abbrev taken : tie.After-clauses Inv-loop μ-loop
+  taken = marked .before
+
   abbrev step : VoteStep
-  step = c .before .before .before .clauses .result
+  step = taken .clauses .result
 
   abbrev slices : Lent
   slices = let l = at-loop .loop in lent (l .words) (l .marks)
 
   abbrev written : Lent
-  written = let l = at-loop .loop in lent (set (l .words) (l .i) (c .word .result)) (set (l .marks) (l .i) (c .before .before .mark .result))
+  written = let l = at-loop .loop in lent (set (l .words) (l .i) (c .word .result)) (set (l .marks) (l .i) (marked .mark .result))
 
   is-stored : written ≡ stored slices (at-loop .loop .i) step
-  is-stored = stored-as slices (at-loop .loop .i) step (c .word .ensures) (c .before .before .mark .ensures)
+  is-stored = stored-as slices (at-loop .loop .i) step (c .word .ensures) (marked .mark .ensures)
 
   more-long : let x = start-of at-loop .args in AsLong (x .a .now) (x .b .now) written
   more-long = stored-long slices (at-loop .loop .i) step is-stored (at-loop .loop .inv .as-long)
 
   more-taken : let x = start-of at-loop .args in
-      let next : VoteRow = record { state = step .state; end = at-loop .loop .i + 1; over = x .once && eqb (c .before .before .mark .result) 2 } in
+      let next : VoteRow = record { state = step .state; end = at-loop .loop .i + 1; over = x .once && eqb (marked .mark .result) 2 } in
       GoesOn (x .once) (zip (x .a .now) (x .b .now)) (x .from) (x .start) (lent (x .words .now) (x .marks .now)) next written
   more-taken s₀ l₀ p =
       let inv = at-loop .loop .inv in
-      one-taken _ s₀ _ _ (inv .as-long .second-long) l₀ slices _ _ step _ _ (c .before .before .before .clauses .ensures) (c .before .before .mark .ensures) is-stored
+      one-taken _ s₀ _ _ (inv .as-long .second-long) l₀ slices _ _ step _ _ (taken .clauses .ensures) (marked .mark .ensures) is-stored
       (loop-of c .loop-test .taken) (inv .goes-on s₀ l₀ p)
 
 returns-2 : tie.Need-returns-2 Inv-loop μ-loop
