@@ -6,7 +6,7 @@
 
 #define SAMPLES SCORVE_MAX_SAMPLES
 
-enum { UNITS = 4, COLUMNS = 1 + UNITS, RUN_OUTPUTS = 4 };
+enum { UNITS = 4, COLUMNS = 1 + UNITS, RUN_OUTPUTS = 4 }; /* a run writes no more */
 
 /* One side's functions; taken from the header, so that both sides have its signatures. */
 struct side {

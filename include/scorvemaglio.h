@@ -15,7 +15,7 @@
  *   - An alarm is an answer and no error: the call returns 0, and the mark is 2,
  *     SCORVE_ALARM.
  *   - It checks every value: numbers, words, states. A state may come from
- *     anywhere; a step refuses one that no step takes.
+ *     anywhere; a step refuses one whose numbers are outside their limits.
  *   - It neither allocates, blocks nor prints, and keeps nothing between calls,
  *     so calls on different states may run on different threads.
  *   - The text of a listing has no terminating NUL; printf("%.*s", ..) prints it.
@@ -60,7 +60,8 @@ extern "C" {
 /* The version of the ABI: one more with each landing after which a program that
  * was right before may have to change; CHANGES.md says how. An object that was
  * compiled with another number than the archive's does not link: the number is
- * part of a name that every object with this header in it refers to. */
+ * part of a name that every object with this header in it refers to, so each
+ * needs the archive, also if it calls nothing. */
 #define SCORVE_VERSION 1
 
 /* The version of the archive, for those who do not compile this header. */

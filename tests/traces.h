@@ -5,7 +5,7 @@
 
 #include "tests.h"
 
-#define OUTPUTS 4 /* the most that a run writes */
+#define OUTPUTS 4 /* at least as many as any run writes */
 
 /* The arguments of a run; a voter uses the first slices, as many as it has. */
 typedef struct trace {
