@@ -1,4 +1,5 @@
--- A state that a step takes: the clauses leave such a state again, number 8 is never given, and a fresh state is one.
+-- A state that a step takes: voters put together no word outside the width, the clauses leave such a state again, and a fresh
+-- state is one.
 use mathlib.Core.Path.{_≡_, refl}
 use mathlib.Core.Bool.{Bool, true, false}
 use Prim.Native.Nat.{ℕ, _-_, _≤_, _<_}
@@ -33,9 +34,9 @@ pub record Sound (n : ℕ) (s : Tuple) : Type 0 where
 pub not-bad : (n : ℕ) (s : Tuple) → Sound n s → badState s ≡ false
 not-bad n s g = let c = g .confirm-sound in simp (c .width, g .places, g .agreed-in, le-ltb _ _ (c .small), c .input-in, c .output-in)
 
--- 8: voters put together a word inside the width, whatever they are fed with
-pub never-8 : (s : Tuple) (a b : ℕ) → outside (width s) (votersOf s a b .word) ≡ false
-never-8 s a b = lt-inside (width s) (votersOf s a b .word) (words-small (voteNeed s) (s .agreed) (s .counts) a b (width s))
+-- voters put together a word inside the width, whatever they are fed with
+pub voted-inside : (s : Tuple) (a b : ℕ) → outside (width s) (votersOf s a b .word) ≡ false
+voted-inside s a b = lt-inside (width s) (votersOf s a b .word) (words-small (voteNeed s) (s .agreed) (s .counts) a b (width s))
 
 bit-inside : (i w : ℕ) → outside 1 (bit i w) ≡ false
 bit-inside i w = lt-inside 1 (bit i w) (bit-small i w)
@@ -71,7 +72,7 @@ module _ (n : ℕ) (s : Tuple) (g : Sound n s) where
   places-next a b = none-below (λ i. badPlace n (voteNeed s) (getD (votersOf s a b .counts) i 0) i) 32 (λ i l. place-next a b i l (ltb i n) refl)
 
   word-next : (a b : ℕ) → outside n (votersOf s a b .word) ≡ false
-  word-next a b = rw (← g .confirm-sound .width) (never-8 s a b)
+  word-next a b = rw (← g .confirm-sound .width) (voted-inside s a b)
 
   -- the clauses leave such a state again
   pub sound-next : (a b : ℕ) → Sound n (clauses s a b .state)

@@ -18,7 +18,7 @@ use Rattle.tuple.specs.Tuple.{width, miscounted, badState, fresh, clause
 use Rattle.tuple.specs.Run.{leaves, stepped, publicStep, steps, publicSteps, shownWord, shownMask, shownMark, Ran, Stepwise}
 use Rattle.tuple.proofs.Accepted.{fine}
 use Rattle.tuple.proofs.Rows.{eight}
-use Rattle.tuple.proofs.Sound.{Sound, not-bad, never-8, sound-next, fresh-sound}
+use Rattle.tuple.proofs.Sound.{Sound, not-bad, voted-inside, sound-next, fresh-sound}
 
 -- on a sound state, with words inside the width, the public step is the clauses
 pub step-is-clauses : (n : ℕ) (s : Tuple) (a b : ℕ) → Sound n s → outside n a || outside n b ≡ false → stepOf s a b ≡ clauses s a b
@@ -28,7 +28,7 @@ step-is-clauses n s a b g e =
     let early : first (earlyRows s a b) ≡ 0 =
     step-0 (miscounted s) (width s) (outside (width s) a || outside (width s) b) (badState s) .1
     (record { counted = g .votes-counted; wide = rw (c .width) (c .wide); sample-in = rw (c .width) e; sound = not-bad n s g }) in
-    sym (works (notTaken s) (clauses s a b) (eight s a b early false (never-8 s a b)) refl)
+    sym (works (notTaken s) (clauses s a b) (eight s a b early false (voted-inside s a b)) refl)
 
 -- a state that a public step takes is sound
 module _ (s : Tuple) (a b : ℕ) (taken : first (earlyRows s a b) ≡ 0) where
@@ -47,7 +47,7 @@ module _ (s : Tuple) (a b : ℕ) (taken : first (earlyRows s a b) ≡ 0) where
   -- and it leaves one
   pub sound-left : badState (stepOf s a b .state) ≡ false
   unfolding stepOf
-  sound-left = rw (← eight s a b taken false (never-8 s a b)) (not-bad (width s) (clauses s a b .state) (sound-next (width s) s sound a b))
+  sound-left = rw (← eight s a b taken false (voted-inside s a b)) (not-bad (width s) (clauses s a b .state) (sound-next (width s) s sound a b))
 
 -- a constructor that refuses nothing makes the fresh state
 pub made-fresh : (n need word : ℕ) → Makes (badCount need) n word → madeOf n need word ≡ made n need word
