@@ -1,14 +1,14 @@
--- Each number of each call is given exactly when its table says so; `Readings` of rules reads the tables out, number by number,
--- but for a step's last row, 8 (`eight-never`). `new` is `from_word` of the default word.
+-- Each number of each call is given exactly when its table says so; `Readings` of rules reads the tables out, number by number.
+-- `new` is `from_word` of the default word.
 use mathlib.Core.Path.{_≡_, refl, _∙_}
 use mathlib.Core.Logic.{_↔_}
 use mathlib.Core.List.{List, [], zip}
 use Prim.Native.Nat.{ℕ}
 use Rattle.rules.specs.Limits.{badCount}
-use Rattle.rules.specs.Table.{Given, LowestOf, numbered, rising}
+use Rattle.rules.specs.Table.{first, Given, numbered}
 use Rattle.rules.specs.Refusals.{makeRows, runRows}
 use Rattle.rules.proofs.Readings.{Makes}
-use Rattle.rules.proofs.Tables.{exactly-when, lowest}
+use Rattle.rules.proofs.Tables.{exactly-when, own-number}
 use Rattle.trace.specs.Samples.{somewhere, Smallest, outsidePair}
 use Rattle.trace.specs.Answers.{runNumber, runSample, longPair, apartPair}
 use Rattle.trace.specs.declared.RunAnswer.{RunAnswer}
@@ -34,15 +34,14 @@ none-refused s a b =
     either-way s a b (λ (t : TupleStep). numberOf (t .answer) ≡ 0) refl
     (confirmed-as (confirm.clauses (s .confirm) (votersOf s a b .word) .answer) .number ∙ confirm-none-refused (s .confirm) (votersOf s a b .word))
 
--- 1, 2, 6, 7 and 8
 pub step-exactly : (s : Tuple) (a b k : ℕ) → (numberOf (stepOf s a b .answer) ≡ k) ↔ Given k (rowsOf s a b)
 unfolding stepOf numbered
 step-exactly s a b = exactly-when (λ (t : TupleStep). numberOf (t .answer)) (rowsOf s a b) (notTaken s) (clauses s a b) refl (λ k. refl) (none-refused s a b)
 
--- where several apply, the lowest number is given
-pub step-lowest : (s : Tuple) (a b : ℕ) → LowestOf (rowsOf s a b)
-unfolding rising
-step-lowest s a b = lowest (rowsOf s a b) refl
+-- so a step's number is its table's
+pub step-number : (s : Tuple) (a b : ℕ) → numberOf (stepOf s a b .answer) ≡ first (rowsOf s a b)
+unfolding stepOf
+step-number s a b = own-number (λ (t : TupleStep). numberOf (t .answer)) (first (rowsOf s a b)) (notTaken s) (clauses s a b) (λ k. refl) (none-refused s a b)
 
 module _ (n need word : ℕ) (a b words masks marks : List ℕ) where
   abbrev answered : RunAnswer

@@ -1,15 +1,17 @@
--- Runs of any length: each voter steps as a plain vote of its own signal, and without alarms the tuple vote is the confirmation of
--- the voted words.
+-- Runs of any length: each voter steps as a plain vote of its own signal, no voted word is outside the width, and without alarms
+-- the tuple vote is the confirmation of the voted words.
 use mathlib.Core.Path.{_≡_, refl, sym, ap, _∙_}
 use mathlib.Core.List.{List, [], _∷_, map}
 use mathlib.Core.Logic.{_↔_}
+use mathlib.Core.Bool.{false}
 use Prim.Native.Nat.{ℕ, zero, suc, _≤_, _<_}
 use native.Mathlib.Omega.{arith}
 use lib.ListN.{length, getD, length-map}
 use borrow.Author.Tests.{eq-eqb, ne-eqb}
 use Rattle.rules.specs.Bits.{bit}
+use Rattle.rules.specs.Limits.{outside}
 use Rattle.trace.specs.Trace.{trace}
-use Rattle.trace.proofs.Steps.{follows}
+use Rattle.trace.proofs.Steps.{at-each, follows}
 use Rattle.confirm.specs.Confirm as confirm
 use Rattle.confirm.specs.Run as confirmRun
 use Rattle.confirm.specs.declared.ConfirmStep.{ConfirmStep}
@@ -25,6 +27,7 @@ use Rattle.tuple.specs.Tuple.{width, fresh, voter, alarmBit, votersOf, c
 use Rattle.tuple.proofs.Clauses.{same-sizes, voters-left}
 use Rattle.tuple.proofs.Masks.{one-at, mask-shown, mask-bit}
 use Rattle.tuple.proofs.PerSignal.{voter-fresh, per-signal}
+use Rattle.tuple.proofs.Sound.{voted-inside}
 
 -- signal i of both words of a sample
 abbrev pub signalOf : ℕ → ℕ × ℕ → ℕ × ℕ
@@ -45,6 +48,14 @@ module _ (s : Tuple) (i : ℕ) (l : i < width s) (xs : List (ℕ × ℕ)) where
 
   pub mask-run : map (λ (t : TupleStep). bit i (shownMask t)) (steps s xs) ≡ map (λ (t : VoteStep). alarmBit (t .answer)) (voteRun.steps (voter s i) (map (signalOf i) xs))
   mask-run = followed (λ (t : TupleStep). bit i (shownMask t)) (λ (t : VoteStep). alarmBit (t .answer)) (λ t x h. mask-bit t (x .0) (x .1) i h)
+
+-- from any state, whatever the samples: the voters put together no word outside the width
+pub voted-run :
+    (s : Tuple) (xs : List (ℕ × ℕ)) (k : ℕ) → k < length xs
+    → outside (width s) (getD (map (λ (t : TupleStep). t .state .agreed) (steps s xs)) k 0) ≡ false
+voted-run s xs =
+    at-each stepped leaves (0, 0) (λ (t : TupleStep). t .state .agreed) 0 (λ k (t : Tuple). width t ≡ width s) (λ k w. outside (width s) w ≡ false) xs
+    (λ k t l e. let x = getD xs k (0, 0) in (same-sizes t (x .0) (x .1) .0 ∙ e, rw (voters-left t (x .0) (x .1) .0, ← e) (voted-inside t (x .0) (x .1)))) s refl
 
 -- from a fresh state, bit i of a mask is a one exactly when signal i disagrees at this and the N−1 samples before it
 one-where : (ts : List VoteStep) (k : ℕ) → (getD (map (λ (t : VoteStep). alarmBit (t .answer)) ts) k 0 ≡ 1) ↔ (getD (map voteRun.shownMark ts) k 255 ≡ 2)

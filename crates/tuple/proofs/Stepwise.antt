@@ -8,33 +8,31 @@ use borrow.Author.Tests.{ltb-false}
 use Rattle.rules.specs.Limits.{badCount, outside}
 use Rattle.rules.specs.Table.{first}
 use Rattle.rules.proofs.Readings.{Makes, makes, step-0, run-makes}
-use Rattle.rules.proofs.Tables.{works, or-each}
+use Rattle.rules.proofs.Tables.{or-each}
 use Rattle.trace.specs.Samples.{outsidePair}
 use Rattle.trace.specs.declared.RunAnswer.the-variants.{Done}
 use Rattle.trace.proofs.Samples.{nowhere}
 use Rattle.trace.proofs.Steps.{agree}
 use Rattle.tuple.specs.declared.Tuple.{Tuple}
-use Rattle.tuple.specs.Tuple.{width, miscounted, badState, fresh, clauses, made, notMade, madeOf, earlyRows, notTaken, stepOf}
+use Rattle.tuple.specs.Tuple.{width, miscounted, badState, fresh, clauses, made, notMade, madeOf, rowsOf, stepOf}
 use Rattle.tuple.specs.Run.{leaves, stepped, publicStep, steps, publicSteps, shownWord, shownMask, shownMark, Ran, Stepwise}
 use Rattle.tuple.proofs.Accepted.{fine}
-use Rattle.tuple.proofs.Rows.{eight}
-use Rattle.tuple.proofs.Sound.{Sound, not-bad, voted-inside, sound-next, fresh-sound}
+use Rattle.tuple.proofs.Rows.{taken}
+use Rattle.tuple.proofs.Sound.{Sound, not-bad, sound-next, fresh-sound}
 
 -- on a sound state, with words inside the width, the public step is the clauses
 pub step-is-clauses : (n : ℕ) (s : Tuple) (a b : ℕ) → Sound n s → outside n a || outside n b ≡ false → stepOf s a b ≡ clauses s a b
-unfolding stepOf
 step-is-clauses n s a b g e =
     let c = g .confirm-sound in
-    let early : first (earlyRows s a b) ≡ 0 =
-    step-0 (miscounted s) (width s) (outside (width s) a || outside (width s) b) (badState s) .1
-    (record { counted = g .votes-counted; wide = rw (c .width) (c .wide); sample-in = rw (c .width) e; sound = not-bad n s g }) in
-    sym (works (notTaken s) (clauses s a b) (eight s a b early false (voted-inside s a b)) refl)
+    taken s a b
+    (step-0 (miscounted s) (width s) (outside (width s) a || outside (width s) b) (badState s) .1
+    (record { counted = g .votes-counted; wide = rw (c .width) (c .wide); sample-in = rw (c .width) e; sound = not-bad n s g }))
 
 -- a state that a public step takes is sound
-module _ (s : Tuple) (a b : ℕ) (taken : first (earlyRows s a b) ≡ 0) where
+module _ (s : Tuple) (a b : ℕ) (none : first (rowsOf s a b) ≡ 0) where
   sound : Sound (width s) s
   sound =
-      let t = step-0 (miscounted s) (width s) (outside (width s) a || outside (width s) b) (badState s) .0 taken in
+      let t = step-0 (miscounted s) (width s) (outside (width s) a || outside (width s) b) (badState s) .0 none in
       let c = s .confirm in
       let p = or-each (or-each (λ e. e) (λ e. e)) (or-each (or-each (ltb-false (c .need - 1) (c .count)) (λ e. e)) (λ e. e)) (t .sound) in
       record {
@@ -46,8 +44,7 @@ module _ (s : Tuple) (a b : ℕ) (taken : first (earlyRows s a b) ≡ 0) where
 
   -- and it leaves one
   pub sound-left : badState (stepOf s a b .state) ≡ false
-  unfolding stepOf
-  sound-left = rw (← eight s a b taken false (voted-inside s a b)) (not-bad (width s) (clauses s a b .state) (sound-next (width s) s sound a b))
+  sound-left = rw (taken s a b none) (not-bad (width s) (clauses s a b .state) (sound-next (width s) s sound a b))
 
 -- a constructor that refuses nothing makes the fresh state
 pub made-fresh : (n need word : ℕ) → Makes (badCount need) n word → madeOf n need word ≡ made n need word

@@ -1,6 +1,6 @@
 -- The tuple vote: document 000, definition 15, as document 01 has it. Signal i of a word is its bit i.
 use Prim.Native.Nat.{ℕ, _-_}
-use mathlib.Core.List.{List, [], _∷_, _++_}
+use mathlib.Core.List.{List, _++_}
 use mathlib.Core.Bool.{Bool, false, not, _||_}
 use lib.Dec.{ltb, eqb}
 use lib.ListN.{getD, drop, replicate}
@@ -8,7 +8,7 @@ use Rattle.rules.specs.Bits.{bit}
 use Rattle.rules.specs.Choose.{if_then_else_}
 use Rattle.rules.specs.Limits.{badCount, outside}
 use Rattle.rules.specs.Signals.{asWord, asList, someBelow}
-use Rattle.rules.specs.Table.{Row, _when_, first, answer}
+use Rattle.rules.specs.Table.{Row, first, answer}
 use Rattle.rules.specs.Refusals.{makeRows, stepRows}
 use Rattle.confirm.specs.Confirm as confirm
 use Rattle.confirm.specs.declared.Confirm.{Confirm}
@@ -116,12 +116,8 @@ badPlaces n need counts = someBelow 32 (λ i. badPlace n need (getD counts i 0) 
 abbrev pub badState : Tuple → Bool
 badState s = badPlaces (width s) (voteNeed s) (s .counts) || outside (width s) (s .agreed) || confirm.badState (s .confirm)
 
-abbrev pub earlyRows : Tuple → ℕ → ℕ → List Row
-earlyRows s a b = stepRows (miscounted s) (width s) (outside (width s) a || outside (width s) b) (badState s)
-
--- 8: the word put together for confirmation has a bit at n or above
 abbrev pub rowsOf : Tuple → ℕ → ℕ → List Row
-rowsOf s a b = earlyRows s a b ++ (8 when outside (width s) (votersOf s a b .word) ∷ [])
+rowsOf s a b = stepRows (miscounted s) (width s) (outside (width s) a || outside (width s) b) (badState s)
 
 -- a step; refused: the state as it came
 abbrev pub notTaken : Tuple → ℕ → TupleStep

@@ -11,7 +11,7 @@ ghost use lib.Dec.{eqb};
 ghost use Rattle.rules.specs.Limits.{defaultWord};
 ghost use Rattle.rules.specs.Table.{first};
 ghost use Rattle.tuple.specs.Answers.{numberOf, wordOf, maskOf, markOf};
-ghost use Rattle.tuple.specs.Tuple.{width, voteNeed, miscounted, fresh, votersOf, confirmedAs, decided, madeOf, earlyRows, notTaken, stepOf};
+ghost use Rattle.tuple.specs.Tuple.{width, voteNeed, miscounted, fresh, votersOf, confirmedAs, decided, madeOf, rowsOf, stepOf};
 ghost use Rattle.tuple.specs.Parts.{Decides};
 ghost use Rattle.tuple.specs.Run.{Ran};
 
@@ -229,18 +229,9 @@ impl Tuple {
         }
     }
 
-    fn refused(self, number: u32) -> TupleStep
-        ensures { λ r. ⌜ r ≡ notTaken self number ⌝ }
-    {
-        TupleStep {
-            state: self,
-            answer: TupleAnswer::Refused(number),
-        }
-    }
-
-    // Whether the voters may step: nothing is refused that is known before.
+    // Whether a step is taken, by one test: its table gives no number.
     fn admits(self, a: u32, b: u32) -> bool
-        ensures { λ r. ⌜ r ≡ eqb (first (earlyRows self a b)) 0 ⌝ }
+        ensures { λ r. ⌜ r ≡ eqb (first (rowsOf self a b)) 0 ⌝ }
     {
         let confirm = self.confirm;
         let counts = self.counts;
@@ -258,15 +249,12 @@ impl Tuple {
         let refused = !self.admits(a, b);
         if refused {
             let number = rules::step_number(self.miscounted(), confirm.n, a | b);
-            return self.refused(number);
+            return TupleStep {
+                state: self,
+                answer: TupleAnswer::Refused(number),
+            };
         }
-        let v = self.voters(a, b);
-        // The table has 8, so it is tested; `eight-never` shows that it is not given.
-        let outlying = rules::outside(confirm.n, v.word);
-        if outlying {
-            return self.refused(8);
-        }
-        self.decided(v)
+        self.decided(self.voters(a, b))
     }
 }
 

@@ -11,7 +11,7 @@ use Rattle.rules.specs.Refusals.{counted, admits}
 use Rattle.rules.proofs.OneTest.{admits-exactly, both-counted}
 use Rattle.rules.proofs.Width.{outside-or}
 use Rattle.tuple.specs.declared.Tuple.{Tuple}
-use Rattle.tuple.specs.Tuple.{width, voteNeed, miscounted, badPlaces, badState, earlyRows}
+use Rattle.tuple.specs.Tuple.{width, voteNeed, miscounted, badPlaces, badState, rowsOf}
 use Rattle.tuple.proofs.Tuple.admits.Statement.{statement}
 use Rattle.tuple.proofs.Tuple.admits.Tie as tie
 
@@ -23,7 +23,7 @@ in-order false l false x y = sym (or-assoc l x y)
 
 tested : (s : Tuple) (a b : ℕ) → let f = s .confirm in
     admits (not (badPlaces (width s) (voteNeed s) (s .counts)) && counted (f .need) (f .count)) (f .n) (bitOr (bitOr a b) (bitOr (s .agreed) (bitOr (f .input) (f .output))))
-    ≡ eqb (first (earlyRows s a b)) 0
+    ≡ eqb (first (rowsOf s a b)) 0
 tested s a b =
     let f = s .confirm in
     let late = ltb (f .need - 1) (f .count) in
