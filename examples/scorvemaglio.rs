@@ -6,7 +6,7 @@
 #![allow(dead_code)] // a program uses what it needs
 
 // The numbers of the header, under its names. `.ci/test-rust-header` compares all that is declared here with it.
-pub const VERSION: u32 = 1;
+pub const VERSION: u32 = 2;
 pub const MAX_WIDTH: usize = 32;
 pub const MAX_COUNT: u32 = 1000;
 pub const MAX_SAMPLES: usize = 2048;
@@ -22,7 +22,6 @@ pub const BAD_LENGTH: u32 = 4;
 pub const BAD_WORD: u32 = 5;
 pub const BAD_SAMPLE: u32 = 6;
 pub const BAD_STATE: u32 = 7;
-pub const BAD_VOTED: u32 = 8;
 pub const BAD_TIMES: u32 = 9;
 pub const COUNT_TOO_BIG: u32 = 10;
 pub const BAD_READING: u32 = 11;
@@ -69,7 +68,7 @@ type Marks = *mut u8;
 #[link(name = "scorvemaglio", kind = "static")]
 extern "C" {
     fn scorve_version() -> u32;
-    fn scorve_abi_1();
+    fn scorve_abi_2();
     fn scorve_confirm_from_word(state: &mut Confirm, n: u32, need: u32, word: u32) -> u32;
     fn scorve_confirm_new(state: &mut Confirm, n: u32, need: u32) -> u32;
     fn scorve_confirm_step(state: &mut Confirm, input: u32, answer: &mut ConfirmAnswer) -> u32;
@@ -104,7 +103,7 @@ extern "C" {
 
 // A program with this wrapper in it does not link with an archive of another version.
 #[used]
-static ABI: unsafe extern "C" fn() = scorve_abi_1;
+static ABI: unsafe extern "C" fn() = scorve_abi_2;
 
 /// The version of the archive.
 pub fn version() -> u32 {

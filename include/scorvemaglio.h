@@ -62,7 +62,7 @@ extern "C" {
  * compiled with another number than the archive's does not link: the number is
  * part of a name that every object with this header in it refers to, so each
  * needs the archive, also if it calls nothing. */
-#define SCORVE_VERSION 1
+#define SCORVE_VERSION 2
 
 /* The version of the archive, for those who do not compile this header. */
 uint32_t scorve_version(void);
@@ -87,7 +87,7 @@ static void (*const scorve_abi)(void) SCORVE_KEPT = SCORVE_ABI;
 #define SCORVE_LONGEST_LISTING 50111   /* bytes; what a listing's buffer needs */
 
 /* What a call returns. Where several apply, the lowest is given; the reader of
- * recordings has an order of its own. 8 is never given. */
+ * recordings has an order of its own. */
 enum scorve_refusal {
   SCORVE_OK = 0,
   SCORVE_BAD_COUNT = 1,     /* need is 0 or above 1,000 */
@@ -98,7 +98,6 @@ enum scorve_refusal {
   SCORVE_BAD_SAMPLE = 6,    /* a sample has such a bit; *sample is the smallest number of one */
   SCORVE_BAD_STATE = 7,     /* a count above need - 1, or in a tuple vote above 0 at n and above; a stored word outside
                                the width; a phase above 2 */
-  SCORVE_BAD_VOTED = 8,     /* the voted word is outside the width */
   SCORVE_BAD_TIMES = 9,     /* sizing: a gap or the delay is outside its limits */
   SCORVE_COUNT_TOO_BIG = 10, /* sizing: the count would exceed 1,000 */
   SCORVE_BAD_READING = 11,  /* a reading or the tolerance is not finite, or the tolerance is below zero */
