@@ -75,9 +75,6 @@ def clauses(state, a, b):
         return Answer(0, before.output, mask, ALARM, State(before, agreed, counts))
     # Otherwise the voted word takes a step of confirmation, with the same N.
     voted = rules.word_of(answer.word for answer in answers)
-    # Number 8. Never met here: the word is put together from n bits.
-    if rules.outside(voted, before.n):
-        return Answer(8, 0, 0, rules.NO_MARK, state)
     after = confirm.clauses(before, voted)
     mark = CONFIRMED if after.mark == confirm.CONFIRMED else HELD
     return Answer(0, after.word, 0, mark, State(after.state, agreed, counts))

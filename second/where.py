@@ -19,7 +19,7 @@ SETTLED = {
     'vote.run': VOTE + RUN,
     'tuple.new': MADE % 'Tuple vote',
     'tuple.from_word': MADE % 'Tuple vote',
-    'tuple.step': TUPLE + STEP + ', 8',
+    'tuple.step': TUPLE + STEP,
     'tuple.run': TUPLE + RUN,
     'reserve.new': MADE % 'Reserve vote',
     'reserve.from_word': MADE % 'Reserve vote',
