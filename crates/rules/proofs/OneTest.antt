@@ -92,6 +92,12 @@ module _ (m : Bool) (n : ℕ) (o d : Bool) where
   pub refused-number : eqb (first (stepRows m n o d)) 0 ≡ false → first (stepRows m n o d) ≡ first (stepRows m n o true)
   refused-number e = rw (e, or-true) at (one-reason-more true)
 
+-- so code that has the sample's words in one, and takes the last row as true, refuses as the table does
+pub not-taken :
+    (m : Bool) (n sample : ℕ) {o : Bool} (d : Bool) → outside n sample ≡ o → {A : Type 0} (refuse : ℕ → A) (work : A)
+    → eqb (first (stepRows m n o d)) 0 ≡ false → refuse (first (stepRows m n (outside n sample) true)) ≡ answer (first (stepRows m n o d)) refuse work
+not-taken m n sample {o} d outlying refuse work e = rw (outlying, e, refused-number m n o d e)
+
 -- `m` is row 1's test and `l` what row 7 asks of the counts, the sample's words are in one and the state's in another; `o` and `d`
 -- are what the table asks of them
 module _
@@ -110,6 +116,4 @@ module _
         {A : Type 0} (refuse : ℕ → A) (work : A)
         → (admits counts n (bitOr sample stored) ≡ true → work ≡ answer (first rows) refuse work)
         × (admits counts n (bitOr sample stored) ≡ false → refuse (first (stepRows m n (outside n sample) true)) ≡ answer (first rows) refuse work)
-    by-one-test refuse work = (λ e. rw (← admits-exactly, e), λ e. not-taken (sym admits-exactly ∙ e)) where
-      not-taken : eqb (first rows) 0 ≡ false → refuse (first (stepRows m n (outside n sample) true)) ≡ answer (first rows) refuse work
-      not-taken e = rw (outlying, e, refused-number m n o d e)
+    by-one-test refuse work = (λ e. rw (← admits-exactly, e), λ e. not-taken m n sample d outlying refuse work (sym admits-exactly ∙ e))

@@ -49,7 +49,7 @@ module _ (s : Tuple) (i : ℕ) (l : i < width s) (xs : List (ℕ × ℕ)) where
   pub mask-run : map (λ (t : TupleStep). bit i (shownMask t)) (steps s xs) ≡ map (λ (t : VoteStep). alarmBit (t .answer)) (voteRun.steps (voter s i) (map (signalOf i) xs))
   mask-run = followed (λ (t : TupleStep). bit i (shownMask t)) (λ (t : VoteStep). alarmBit (t .answer)) (λ t x h. mask-bit t (x .0) (x .1) i h)
 
--- from any state, whatever the samples: the voters put together no word outside the width
+-- from any state, whatever the samples: the voters put together no word outside the width. It is what a step leaves as agreed
 pub voted-run :
     (s : Tuple) (xs : List (ℕ × ℕ)) (k : ℕ) → k < length xs
     → outside (width s) (getD (map (λ (t : TupleStep). t .state .agreed) (steps s xs)) k 0) ≡ false

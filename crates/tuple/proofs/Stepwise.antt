@@ -7,32 +7,30 @@ use lib.ListN.{length, getD}
 use borrow.Author.Tests.{ltb-false}
 use Rattle.rules.specs.Limits.{badCount, outside}
 use Rattle.rules.specs.Table.{first}
-use Rattle.rules.proofs.Readings.{Makes, makes, step-0, run-makes}
+use Rattle.rules.proofs.Readings.{Makes, makes, run-makes}
 use Rattle.rules.proofs.Tables.{or-each}
 use Rattle.trace.specs.Samples.{outsidePair}
 use Rattle.trace.specs.declared.RunAnswer.the-variants.{Done}
 use Rattle.trace.proofs.Samples.{nowhere}
 use Rattle.trace.proofs.Steps.{agree}
 use Rattle.tuple.specs.declared.Tuple.{Tuple}
-use Rattle.tuple.specs.Tuple.{width, miscounted, badState, fresh, clauses, made, notMade, madeOf, rowsOf, stepOf}
+use Rattle.tuple.specs.Tuple.{width, badState, fresh, clauses, made, notMade, madeOf, rowsOf, stepOf}
 use Rattle.tuple.specs.Run.{leaves, stepped, publicStep, steps, publicSteps, shownWord, shownMask, shownMark, Ran, Stepwise}
 use Rattle.tuple.proofs.Accepted.{fine}
-use Rattle.tuple.proofs.Rows.{taken}
+use Rattle.tuple.proofs.Rows.{none-given, taken}
 use Rattle.tuple.proofs.Sound.{Sound, not-bad, sound-next, fresh-sound}
 
 -- on a sound state, with words inside the width, the public step is the clauses
 pub step-is-clauses : (n : ℕ) (s : Tuple) (a b : ℕ) → Sound n s → outside n a || outside n b ≡ false → stepOf s a b ≡ clauses s a b
 step-is-clauses n s a b g e =
     let c = g .confirm-sound in
-    taken s a b
-    (step-0 (miscounted s) (width s) (outside (width s) a || outside (width s) b) (badState s) .1
-    (record { counted = g .votes-counted; wide = rw (c .width) (c .wide); sample-in = rw (c .width) e; sound = not-bad n s g }))
+    taken s a b (none-given s a b .1 (record { counted = g .votes-counted; wide = rw (c .width) (c .wide); sample-in = rw (c .width) e; sound = not-bad n s g }))
 
 -- a state that a public step takes is sound
 module _ (s : Tuple) (a b : ℕ) (none : first (rowsOf s a b) ≡ 0) where
   sound : Sound (width s) s
   sound =
-      let t = step-0 (miscounted s) (width s) (outside (width s) a || outside (width s) b) (badState s) .0 none in
+      let t = none-given s a b .0 none in
       let c = s .confirm in
       let p = or-each (or-each (λ e. e) (λ e. e)) (or-each (or-each (ltb-false (c .need - 1) (c .count)) (λ e. e)) (λ e. e)) (t .sound) in
       record {

@@ -1,9 +1,12 @@
 -- `Tuple::step` meets its contract: where the one test finds nothing wrong the clauses, else the state as it came.
 use mathlib.Core.Path.{_≡_, sym, ap, _∙_}
 use borrow.Author.Tests.{eqb-true, not-false, not-true}
+use lib.Bits.{bitOr}
 use Rattle.rules.specs.Table.{first}
-use Rattle.tuple.specs.Tuple.{clauses, decided, rowsOf}
-use Rattle.tuple.proofs.Rows.{refused, wide, taken}
+use Rattle.rules.proofs.OneTest.{not-taken}
+use Rattle.rules.proofs.Width.{outside-or}
+use Rattle.tuple.specs.Tuple.{width, miscounted, badState, clauses, decided, rowsOf, notTaken, stepOf}
+use Rattle.tuple.proofs.Rows.{wide, taken}
 use Rattle.tuple.proofs.Tuple.step.Statement.{statement}
 use Rattle.tuple.proofs.Tuple.step.Tie as tie
 
@@ -16,11 +19,14 @@ none : (c : tie.Else1) → let x = asked (c .before) .args in first (rowsOf (x .
 none c = eqb-true _ _ (sym (c .before .admits .ensures) ∙ not-false _ (c .if1 .left))
 
 returns : tie.Need-returns
+unfolding stepOf
 returns c =
     let tested = c .before .before in
     let x = asked (tested .before) .args in
+    let s = x .self in
     rw (c .step-number .ensures, c .before .miscounted .ensures)
-    (refused (x .self) (x .a) (x .b) (sym (tested .before .admits .ensures) ∙ not-true _ (tested .if1 .taken)))
+    (not-taken (miscounted s) (width s) (bitOr (x .a) (x .b)) (badState s) (outside-or (width s) (x .a) (x .b)) (notTaken s) (clauses s (x .a) (x .b))
+    (sym (tested .before .admits .ensures) ∙ not-true _ (tested .if1 .taken)))
 
 voters-requires : tie.Need-voters-requires
 voters-requires c κs = let x = asked (c .before) .args in wide (x .self) (x .a) (x .b) (none c)
