@@ -1,5 +1,6 @@
-"""What the documents say beside names: how wide they are, which wrong answers are tried, what a command prints, and in
-which order the definitions are read. Each function gives the complaints about a text; .ci/test-docs has the rules."""
+"""What the documents say beside names: how wide they are, which wrong answers are tried, which refusals there are, what a
+command prints, and in which order the definitions are read. Each function gives the complaints about a text;
+.ci/test-docs has the rules."""
 import re
 import subprocess
 
@@ -26,6 +27,28 @@ def answers(text, project):
         for name in names:
             if '`%s/%s`' % (room, name) not in text and not any('`%s`' % name in part for part in own):
                 yield 'does not name the wrong answer %s of %s' % (name, room)
+
+
+def given(top):
+    """The refusals of the header."""
+    enum = re.search(r'enum scorve_refusal \{(.*?)\}', (top / 'include/scorvemaglio.h').read_text(), re.S)[1]
+    return set(re.findall(r' = (\d+)', enum)) - {'0'}
+
+
+def refusals(text, top):
+    """The list of them, a table's first column or else bold numbers, is the header's."""
+    part = re.search(r'^## [^\n]*[Rr]efusal(?:s| numbers)$(.*?)(?=^## )', text, re.M | re.S)[1]
+    cells = [cell.strip() for cell in re.findall(r'^\|([^|]*)\|', part, re.M)]
+    listed = {k for cell in cells if cell.strip('-') for k in cell.split(', ')} or set(re.findall(r'\*\*(\d+)\*\*', part))
+    yield from ('does not list refusal %s of the header' % k for k in sorted(given(top) - listed))
+    yield from ('lists refusal %s, which the header has not' % k for k in sorted(listed - given(top)))
+
+
+def unused(text, documents, top):
+    """A refusal that one of the documents says is not used is so in this one, and not in the header."""
+    said = [set(re.findall(r'(?:Number\s+|\*\*)(\d+)\s+is\s+not\s+used', t)) for t in [text, *documents]]
+    yield from ('does not say that refusal %s is not used' % k for k in sorted(set().union(*said) - said[0]))
+    yield from ('says that refusal %s is not used' % k for k in sorted(said[0] & given(top)))
 
 
 def told(text):
