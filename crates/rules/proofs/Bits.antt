@@ -1,9 +1,11 @@
 -- A signal of two words put together by AND, OR and XOR is the two signals put together, for every signal. So AND has a one where both
--- have, OR where one has, and XOR where they differ.
-use Prim.Native.Nat.{ℕ, zero, suc, _+_, _*_, _/_, _%_, _^_, _<_, min, max}
-use mathlib.Core.Path.{_≡_, refl, ap, _∙_}
+-- have, OR where one has, and XOR where they differ. NOT, of a word of w bits, has one where the word has none.
+use Prim.Native.Nat.{ℕ, zero, suc, _+_, _-_, _*_, _/_, _%_, _^_, _<_, min, max}
+use mathlib.Core.Path.{_≡_, refl, sym, ap, _∙_}
 use mathlib.Core.Logic.{_↔_}
+use native.Mathlib.Nat.{add-mul, add-mul-div-right, div-add-mod', div-eq-of-lt, div-lt-iff-lt-mul, mod-lt, mul-assoc, zero-add}
 use native.Mathlib.Omega.{arith}
+use lib.Pow.{pow-pos, pow-add}
 use lib.Bits.{bitAnd, bitOr, bitXor, differ, and-shr, or-shr, xor-shr, and-step, or-step, xor-step}
 use Rattle.rules.specs.Bits.{bit}
 use Rattle.rules.proofs.Signals.{bit-small}
@@ -47,3 +49,23 @@ module _ (k a b : ℕ) where
   -- a one exactly where the two differ
   pub xor-exactly : (bit k (bitXor a b) ≡ 1) ↔ (bit k a ≡ bit k b → ⊥)
   xor-exactly = rw xor-bit (one-told (bit k a) (bit k b) (bit-small k a) (bit-small k b))
+
+-- what is left of all ones: above place k the quotient's own NOT, below it the remainder's
+pub not-bit : (w k a : ℕ) → k < w → a < 2 ^ w → bit k ((2 ^ w - 1) - a) ≡ 1 - bit k a
+not-bit w k a l h =
+    let p = 2 ^ k in
+    let half = 2 ^ (w - suc k) in
+    let q = a / p in
+    let r = a % p in
+    let e : w ≡ (w - suc k) + (1 + k) = omega (arith, l) in
+    let whole : 2 ^ w ≡ (half * 2) * p =
+    ap (λ (j : ℕ). 2 ^ j) e ∙ pow-add 2 (w - suc k) (1 + k) ∙ ap (λ (j : ℕ). half * j) (pow-add 2 1 k) ∙ sym (mul-assoc half 2 p) in
+    let small : q < half * 2 = div-lt-iff-lt-mul (pow-pos k) .1 (rw (← whole) h) in
+    let u = (half * 2 - 1) - q in
+    let split : half * 2 ≡ (u + 1) + q = omega (arith, small) in
+    let parts : (half * 2) * p ≡ (u * p + 1 * p) + q * p = ap (λ (j : ℕ). j * p) split ∙ add-mul (u + 1) q p ∙ ap (λ (j : ℕ). j + q * p) (add-mul u 1 p) in
+    let left : (2 ^ w - 1) - a ≡ (p - 1 - r) + u * p = omega (arith, whole, parts, div-add-mod' a p, mod-lt a (pow-pos k)) in
+    let high : ((2 ^ w - 1) - a) / p ≡ u =
+    ap (λ (j : ℕ). j / p) left ∙ add-mul-div-right (p - 1 - r) u (pow-pos k)
+    ∙ ap (λ (j : ℕ). j + u) (div-eq-of-lt (omega (arith, mod-lt a (pow-pos k)))) ∙ zero-add u in
+    ap (λ (j : ℕ). j % 2) high ∙ omega (arith, split)

@@ -37,6 +37,14 @@ module _ (f : ℕ → ℕ) where
   word-same g zero h = refl
   word-same g (suc n) h = rw (word-same g n (λ i l. h i (omega (arith, l))), h n (omega arith))
 
+  -- nothing put at n and above is nothing more
+  pub word-ends : (n m : ℕ) → n ≤ m → ((i : ℕ) → n ≤ i → f i ≡ 0) → asWord m f ≡ asWord n f
+  unfolding asWord
+  word-ends n zero l h = let e : n ≡ 0 = omega (arith, l) in rw e
+  word-ends n (suc m) l h =
+      ⊎-elim (λ (e : n ≡ suc m). rw e)
+      (λ (q : n < suc m). rw (h m (omega (arith, q)), word-ends n m (omega (arith, q)) h) (omega arith)) (eq-or-lt-of-le l)
+
   pub word-small : ((i : ℕ) → f i < 2) → (n : ℕ) → asWord n f < 2 ^ n
   unfolding asWord
   word-small h zero = lit< tt
@@ -69,6 +77,11 @@ module _ (f : ℕ → ℕ) where
     back : (n : ℕ) → ((i : ℕ) → i < n → f i ≡ 0) → asWord n f ≡ 0
     back zero z = refl
     back (suc n) z = rw (back n (λ i l. z i (omega (arith, l))), z n (omega arith)) (omega arith)
+
+  pub list-same : (g : ℕ → ℕ) (n : ℕ) → ((i : ℕ) → i < n → f i ≡ g i) → asList n f ≡ asList n g
+  unfolding asList
+  list-same g zero h = refl
+  list-same g (suc n) h = rw (list-same g n (λ i l. h i (omega (arith, l))), h n (omega arith))
 
   pub list-length : (n : ℕ) → length (asList n f) ≡ n
   unfolding asList

@@ -27,7 +27,7 @@ outside-le n w e = ltb-false w (2 ^ n) (not-true (ltb w (2 ^ n)) e)
 outside-ge : (n w : ℕ) → 2 ^ n ≤ w → outside n w ≡ true
 outside-ge n w h = ap not (le-ltb w (2 ^ n) h)
 
-high-zero : (n w : ℕ) → w < 2 ^ n → Within n w
+pub high-zero : (n w : ℕ) → w < 2 ^ n → Within n w
 high-zero n w h k le = ap (λ (q : ℕ). q % 2) (div-eq-of-lt (let m : 2 ^ n ≤ 2 ^ k = pow-mono le in omega arith))
 
 -- a word below 2 ^ (n + m) whose bits n and above are zero is below 2 ^ n: one bit after the other from the top
