@@ -1,4 +1,5 @@
 pub mod Answers
+pub mod Disagreement
 pub mod Parts
 pub mod Run
 pub mod Tuple

@@ -1,0 +1,34 @@
+-- T-03: the signals that disagree at a sample, as one word, and the voters as they look at it. The voters of `Tuple.antt` are the same
+-- (`look`, `proofs/Disagreement.antt`), so this page changes no promise.
+use Prim.Native.Nat.{ℕ, _+_, _-_}
+use mathlib.Core.List.{List, _++_}
+use lib.Dec.{ltb, eqb}
+use lib.ListN.{getD, drop}
+use Rattle.rules.specs.Bits.{bit}
+use Rattle.rules.specs.Choose.{if_then_else_}
+use Rattle.rules.specs.Signals.{asWord, asList}
+use Rattle.tuple.specs.declared.Voters.{Voters}
+
+-- a one at place i where signal i of the two words differs
+abbrev pub disagreement : ℕ → ℕ → ℕ → ℕ
+disagreement n a b = asWord n (λ i. if eqb (bit i a) (bit i b) then 0 else 1)
+
+-- A signal looks at its own bit d of that word. Where it agrees (d is 0) it takes the units' bit, and its count is zero; where it
+-- disagrees it keeps its agreed bit and goes on counting, up to N-1; once it is there, to disagree is to alarm
+abbrev pub bitBy : ℕ → ℕ → ℕ → ℕ
+bitBy d units kept = if eqb d 0 then units else kept
+
+abbrev pub countBy : ℕ → ℕ → ℕ → ℕ
+countBy need count d = if eqb d 0 then 0 else if ltb count (need - 1) then count + 1 else count
+
+abbrev pub alarmBy : ℕ → ℕ → ℕ → ℕ
+alarmBy need count d = if ltb count (need - 1) then 0 else d
+
+-- all signals, by the word of disagreements d; a is a unit's word
+abbrev pub votersBy : ℕ → ℕ → ℕ → List ℕ → ℕ → ℕ → Voters
+votersBy n need agreed counts d a =
+    record {
+      word = asWord n (λ i. bitBy (bit i d) (bit i a) (bit i agreed));
+      mask = asWord n (λ i. alarmBy need (getD counts i 0) (bit i d));
+      counts = asList n (λ i. countBy need (getD counts i 0) (bit i d)) ++ drop n counts;
+    }
