@@ -1,5 +1,5 @@
 -- What is known of a run that is accepted: the samples are few, every slice is as long as the first column, the run starts from a
--- state that a step takes, and each word of the first column is inside the width.
+-- state that a step takes, and each word of both columns is inside the width.
 use mathlib.Core.Path.{_≡_, sym, ap, _∙_}
 use mathlib.Core.List.{List, zip}
 use mathlib.Core.Bool.{false}
@@ -29,7 +29,7 @@ pub record Accepted (n : ℕ) (start : Tuple) (a b words masks marks : List ℕ)
   pub masks-long : length a ≡ length masks
   pub marks-long : length a ≡ length marks
   pub start-sound : Sound n start
-  pub first-inside : (i : ℕ) → i < length a → outside n (getD a i 0) ≡ false
+  pub inside : (i : ℕ) → i < length a → (outside n (getD a i 0) ≡ false) × (outside n (getD b i 0) ≡ false)
 
 module _ (n need word : ℕ) (a b words masks marks : List ℕ) (accepted : answerOf n need word a b words masks marks ≡ Done) where
   pub fine : Runs (badCount need) n word (longPair a b) (apartPair a b (unequal a words masks marks)) (somewhere (outsidePair n) (zip a b))
@@ -45,7 +45,7 @@ module _ (n need word : ℕ) (a b words masks marks : List ℕ) (accepted : answ
         masks-long = all .1 .0 .1;
         marks-long = all .1 .1;
         start-sound = fresh-sound n need word (run-makes _ _ _ _ _ _ fine);
-        first-inside = λ i l.
+        inside = λ i l.
             let none = nowhere (outsidePair n) (zip a b) (0, 0) (fine .samples-in) i (omega (arith, zip-length a b (all .0))) in
-            or-neither (outside n (getD a i 0)) (outside n (getD b i 0)) (ap (outsidePair n) (sym (zip-at a b i 0 0 l (all .0))) ∙ none) .0;
+            or-neither (outside n (getD a i 0)) (outside n (getD b i 0)) (ap (outsidePair n) (sym (zip-at a b i 0 0 l (all .0))) ∙ none);
       }

@@ -13,11 +13,13 @@ use Rattle.tuple.specs.declared.Tuple.{Tuple}
 use Rattle.tuple.specs.declared.TupleStep.{TupleStep}
 use Rattle.tuple.specs.declared.Voted.{Voted}
 use Rattle.tuple.specs.declared.Voters.{Voters}
+use Rattle.tuple.specs.Disagreement.{disagreement, votersBy}
 use Rattle.tuple.specs.Parts.{together, stepWith, Decides, Resting}
 use Rattle.tuple.specs.Run.{shownWord, shownMask}
 use Rattle.tuple.specs.Tuple.{voteNeed, signalVote, voters, votersOf, decided, clauses}
 use Rattle.tuple.proofs.Agreeing.{agreeing}
 use Rattle.tuple.proofs.Clauses.{shown-stays, same-sizes}
+use Rattle.tuple.proofs.Disagreement.{look}
 use Rattle.tuple.proofs.Masks.{mask-shown}
 use Rattle.tuple.proofs.Sound.{Sound, above-zero, sound-next}
 
@@ -29,7 +31,7 @@ pub record Taken (n need : ℕ) (s : Tuple) (a b : ℕ) (v : Voted) (counts : Li
   pub as-long : length counts ≡ 32
   pub sound-left : Sound n (stepWith s d v counts .state)
   pub votes-left : voteNeed (stepWith s d v counts .state) ≡ need
-  pub all-rest : outside n a ≡ false → a ≡ b → counts ≡ replicate 32 0
+  pub all-rest : outside n a ≡ false → disagreement n a b ≡ 0 → counts ≡ replicate 32 0
 
 -- a state that a step takes may rest: where no voter waits every count is zero
 module _ (n need : ℕ) (s : Tuple) (g : Sound n s) (votes : voteNeed s ≡ need) where
@@ -48,11 +50,10 @@ module _ (n need : ℕ) (s : Tuple) (g : Sound n s) (votes : voteNeed s ≡ need
         let f : ℕ → ℕ = λ i. signalVote need (s .agreed) (s .counts) a b i .state .count in
         ap (λ (x : Voters). length (x .counts)) voted ∙ places-length f (s .counts) n (omega (arith, wide)) ∙ long
 
-    all-rest : outside n a ≡ false → a ≡ b → counts ≡ replicate 32 0
-    all-rest inside same =
-        let all = agreeing n need (s .agreed) (s .counts) a wide long (above-zero n s g) inside in
-        let rest : voters n need (s .agreed) (s .counts) a b .counts ≡ replicate 32 0 = rw (← same) (sym (ap (λ (x : Voters). x .counts) all)) in
-        ap (λ (x : Voters). x .counts) voted ∙ rest
+    all-rest : outside n a ≡ false → disagreement n a b ≡ 0 → counts ≡ replicate 32 0
+    all-rest inside none =
+        let looked = voted ∙ sym (look n need (s .agreed) (s .counts) a b) ∙ ap (λ (d : ℕ). votersBy n need (s .agreed) (s .counts) d a) none in
+        ap (λ (x : Voters). x .counts) (looked ∙ sym (agreeing n need (s .agreed) (s .counts) a wide long (above-zero n s g) inside))
 
     module _ (d : Decided) (decides : Decides (s .confirm) v d) where
       whole : stepWith s d v counts ≡ clauses s a b

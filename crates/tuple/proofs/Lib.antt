@@ -2,6 +2,7 @@ pub mod Accepted
 pub mod Agreeing
 pub mod Calls
 pub mod Clauses
+pub mod Disagreement
 pub mod Exactly
 pub mod InParts
 pub mod Masks
@@ -12,4 +13,5 @@ pub mod Runs
 pub mod Small
 pub mod Sound
 pub mod Stepwise
+pub mod TwoWords
 pub mod Unique

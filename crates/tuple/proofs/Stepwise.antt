@@ -28,7 +28,7 @@ step-is-clauses n s a b g e =
 
 -- a state that a public step takes is sound
 module _ (s : Tuple) (a b : ℕ) (none : first (rowsOf s a b) ≡ 0) where
-  sound : Sound (width s) s
+  pub sound : Sound (width s) s
   sound =
       let t = none-given s a b .0 none in
       let c = s .confirm in

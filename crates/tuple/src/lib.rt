@@ -6,12 +6,11 @@ use confirm::Confirm;
 use confirm::ConfirmAnswer;
 use trace::RunAnswer;
 ghost use mathlib.Core.Path.{_≡_};
-ghost use Prim.Native.Nat.{_≤_};
 ghost use lib.Dec.{eqb};
 ghost use Rattle.rules.specs.Limits.{defaultWord};
 ghost use Rattle.rules.specs.Table.{first};
 ghost use Rattle.tuple.specs.Answers.{numberOf, wordOf, maskOf, markOf};
-ghost use Rattle.tuple.specs.Tuple.{width, voteNeed, miscounted, fresh, votersOf, confirmedAs, decided, madeOf, rowsOf, stepOf};
+ghost use Rattle.tuple.specs.Tuple.{voteNeed, miscounted, fresh, votersOf, confirmedAs, decided, madeOf, rowsOf, stepOf};
 ghost use Rattle.tuple.specs.Parts.{Decides};
 ghost use Rattle.tuple.specs.Run.{Ran};
 
@@ -54,6 +53,12 @@ pub struct Voters {
 struct Voted {
     pub word: u32,
     pub mask: u32,
+}
+
+// The places that count, and those above N-1, as a word each.
+struct Places {
+    pub counting: u32,
+    pub over: u32,
 }
 
 // What is decided of a sample: the confirmation's state that is left, and the answer.
@@ -214,14 +219,15 @@ impl Tuple {
         rules::bad_count(self.vote_need())
     }
 
+    // The signals that disagree, as one word, and the voters, which look at it.
     fn voters(self, a: u32, b: u32) -> Voters
-        requires { ⌜ width self ≤ 32 ⌝ }
+        requires { ⌜ first (rowsOf self a b) ≡ 0 ⌝ }
         ensures { λ r. ⌜ r ≡ votersOf self a b ⌝ }
     {
         let need = self.vote_need();
-        let confirm = self.confirm;
         let mut counts = self.counts;
-        let voted = signals::step_voters(confirm.n as usize, need, self.agreed, &mut counts, a, b);
+        let disagreeing = signals::disagreement(a, b);
+        let voted = signals::step_voters(need, self.agreed, &mut counts, disagreeing, a);
         Voters {
             word: voted.word,
             mask: voted.mask,
@@ -229,15 +235,16 @@ impl Tuple {
         }
     }
 
-    // Whether a step is taken, by one test: its table gives no number.
+    // Whether a step is taken, by one test: its table gives no number. No place at n or above counts where the word of those
+    // that do is inside the width.
     fn admits(self, a: u32, b: u32) -> bool
         ensures { λ r. ⌜ r ≡ eqb (first (rowsOf self a b)) 0 ⌝ }
     {
         let confirm = self.confirm;
         let counts = self.counts;
-        let stored = self.agreed | (confirm.input | confirm.output);
-        let placed = !signals::bad_places(confirm.n as usize, self.vote_need(), counts);
-        let counted = placed & rules::counted(confirm.need, confirm.count);
+        let places = signals::places_of(self.vote_need(), counts);
+        let stored = places.counting | (self.agreed | (confirm.input | confirm.output));
+        let counted = (places.over == 0) & rules::counted(confirm.need, confirm.count);
         rules::admits(counted, confirm.n, (a | b) | stored)
     }
 

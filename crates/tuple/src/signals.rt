@@ -1,175 +1,196 @@
-// What each signal has of its own: its bit of a word, its vote, and its place among the counts.
+// A sample of the voters, top to bottom: the signals that disagree, as one word, and what each signal does that looks at it.
+use crate::Places;
 use crate::Voted;
-use vote::Vote;
-use vote::VoteAnswer;
-use vote::VoteStep;
 ghost use mathlib.Core.Path.{_≡_};
 ghost use mathlib.Core.Bool.{false};
-ghost use Prim.Native.Nat.{ℕ, _≤_, _<_, _+_, _*_, _^_};
-ghost use lib.ListN.{length};
+ghost use mathlib.Core.List.{_++_};
+ghost use Prim.Native.Nat.{ℕ, _≤_, _-_, _*_, _^_};
+ghost use lib.Dec.{ltb};
+ghost use lib.ListN.{length, getD, drop};
 ghost use Rattle.rules.specs.Bits.{bit};
-ghost use Rattle.vote.specs.Vote.{clauses as voteClauses};
+ghost use Rattle.rules.specs.Choose.{if_then_else_};
 ghost use Rattle.rules.specs.Limits.{outside};
-ghost use Rattle.tuple.specs.Tuple.{voterOf, alarmBit, voters, badPlace, badPlaces};
+ghost use Rattle.rules.specs.Signals.{asWord, asList};
+ghost use Rattle.tuple.specs.Disagreement.{disagreement, bitBy, countBy, alarmBy, votersBy};
 ghost use Rattle.tuple.specs.Parts.{together, Resting};
 
-// A place for each signal that a word can have.
-const PLACES: usize = 32;
-
-// A one at each place, and nowhere else. The table is read in a loop that takes several signals at once: a shift by the place
-// would be another one for each of them.
-const ONES: [u32; 32] = [
-    1,
-    2,
-    4,
-    8,
-    16,
-    32,
-    64,
-    128,
-    256,
-    512,
-    1024,
-    2048,
-    4096,
-    8192,
-    16384,
-    32768,
-    65536,
-    131072,
-    262144,
-    524288,
-    1048576,
-    2097152,
-    4194304,
-    8388608,
-    16777216,
-    33554432,
-    67108864,
-    134217728,
-    268435456,
-    536870912,
-    1073741824,
-    2147483648,
-];
-
-// The signal of a word at the place of a one.
-fn signal(one: u32, w: u32) -> u32
-    ensures { λ r. ⌜ ((i : ℕ) → one ≡ 2 ^ i → r ≡ bit i w) ⌝ }
+// The signals that disagree: a one at the place of each.
+pub(crate) fn disagreement(a: u32, b: u32) -> u32
+    ensures { λ r. ⌜ ((n : ℕ) → outside n a ≡ false → outside n b ≡ false → r ≡ disagreement n a b) ⌝ }
 {
-    if w & one != 0 {
-        return 1;
+    a ^ b
+}
+
+// A signal that agrees takes the units' bit, one that disagrees keeps its agreed bit.
+fn voted_word(disagreeing: u32, agreed: u32, a: u32) -> u32
+    ensures { λ r. ⌜ ((n : ℕ) → n ≤ 32 → outside n disagreeing ≡ false → outside n a ≡ false
+        → r ≡ asWord n (λ i. bitBy (bit i disagreeing) (bit i a) (bit i agreed))) ⌝ }
+{
+    (a & !disagreeing) | (agreed & disagreeing)
+}
+
+// The count of a signal that agrees is zero; one that disagrees goes on counting, up to N-1.
+fn next_count(need: u32, count: u32, disagrees: u32) -> u32
+    ensures { λ r. ⌜ r ≡ countBy need count disagrees ⌝ }
+{
+    if disagrees == 0 {
+        return 0;
     }
-    0
+    if count < rules::last(need) {
+        return count + 1;
+    }
+    count
 }
 
-// The plain vote of the signal at the place of a one, by the vote's own clauses.
-fn vote_signal(need: u32, agreed: u32, count: u32, a: u32, b: u32, one: u32) -> VoteStep
-    ensures { λ r. ⌜ ((i : ℕ) → one ≡ 2 ^ i → r ≡ voteClauses (voterOf need agreed count i) (bit i a) (bit i b) false) ⌝ }
+// A signal that disagrees, and whose count is N-1 already, alarms: a one at its place.
+fn alarm_at(need: u32, count: u32, disagrees: u32) -> u32
+    ensures { λ r. ⌜ r ≡ alarmBy need count disagrees ⌝ }
 {
-    let voter = Vote {
-        n: 1,
-        need,
-        word: signal(one, agreed),
-        count,
-    };
-    voter.clauses(signal(one, a), signal(one, b), false)
-}
-
-// A one where a voter alarms.
-fn alarm_bit(answer: VoteAnswer) -> u32
-    ensures { λ r. ⌜ r ≡ alarmBit answer ⌝ }
-{
-    match answer {
-        VoteAnswer::Agreed(_) => 0,
-        VoteAnswer::Held(_) => 0,
-        VoteAnswer::Alarm(_) => 1,
-        VoteAnswer::Refused(_) => 0,
+    if count < rules::last(need) {
+        0
+    } else {
+        disagrees
     }
 }
 
-// The signal v is put at the place of a one, in front of the signals below it.
-fn put_signal(w: u32, v: u32, one: u32) -> u32
-    ensures { λ r. ⌜ ((i : ℕ) → one ≡ 2 ^ i → w < 2 ^ i → v < 2 → r ≡ w + v * 2 ^ i) ⌝ }
-{
-    if v != 0 {
-        return w | one;
-    }
-    w
-}
-
-// The voters of all signals step, none looking at another; their counts step in place.
-pub(crate) fn step_voters(
+// The counts of n signals step in place; the signals that alarm are told.
+fn step_counts(
     n: usize,
     need: u32,
-    agreed: u32,
+    disagreeing: u32,
+    ones: &[u32; 32],
     counts: &mut [u32; 32],
-    a: u32,
-    b: u32,
-) -> Voted
-    requires { ⌜ (n ≤ 32) × (length (now counts) ≡ 32) ⌝ }
-    ensures { λ r. ⌜ together r (now (counts .exit)) ≡ voters n need agreed (now (counts .entry)) a b ⌝ }
+) -> u32
+    requires { ⌜ (n ≤ 32) × (length (now counts) ≡ 32) × (now ones ≡ asList 32 (λ i. 2 ^ i)) ⌝ }
+    ensures { λ r. ⌜ r ≡ asWord n (λ i. alarmBy need (getD (now (counts .entry)) i 0) (bit i disagreeing)) ⌝ }
+    ensures { λ _. ⌜ now (counts .exit)
+        ≡ asList n (λ i. countBy need (getD (now (counts .entry)) i 0) (bit i disagreeing)) ++ drop n (now (counts .entry)) ⌝ }
 {
-    let ones = ONES;
-    let mut word = 0u32;
     let mut mask = 0u32;
     let mut i = 0usize;
     while i < n {
-        let one = ones[i];
-        let taken = vote_signal(need, agreed, counts[i], a, b, one);
-        let answer = taken.answer;
-        let left = taken.state;
-        word = put_signal(word, left.word, one);
-        mask = put_signal(mask, alarm_bit(answer), one);
-        counts[i] = left.count;
+        let count = counts[i];
+        let disagrees = disagreeing & ones[i];
+        mask = mask | alarm_at(need, count, disagrees);
+        counts[i] = next_count(need, count, disagrees);
         i += 1;
     }
-    Voted { word, mask }
+    mask
 }
 
-// A sample's voters. Where both words are equal every voter agrees, and its count is zero: it is set so if it may be another.
+// A sample of the voters of n signals, none looking at another. Where none disagrees every count is zero: it is set so if some
+// voter may wait.
 pub(crate) fn step_sample(
     n: usize,
     need: u32,
     agreed: u32,
     waiting: bool,
+    ones: &[u32; 32],
     counts: &mut [u32; 32],
+    disagreeing: u32,
     a: u32,
-    b: u32,
 ) -> Voted
-    requires { ⌜ (n ≤ 32) × (length (now counts) ≡ 32) ⌝ }
-    requires { ⌜ outside n a ≡ false ⌝ }
+    requires { ⌜ (n ≤ 32) × (length (now counts) ≡ 32) × (now ones ≡ asList 32 (λ i. 2 ^ i)) ⌝ }
+    requires { ⌜ (outside n disagreeing ≡ false) × (outside n a ≡ false) ⌝ }
     requires { ⌜ Resting n waiting (now counts) ⌝ }
-    ensures { λ r. ⌜ together r (now (counts .exit)) ≡ voters n need agreed (now (counts .entry)) a b ⌝ }
+    ensures { λ r. ⌜ together r (now (counts .exit)) ≡ votersBy n need agreed (now (counts .entry)) disagreeing a ⌝ }
 {
-    if a != b {
-        return step_voters(n, need, agreed, counts, a, b);
+    if disagreeing == 0 {
+        if waiting {
+            *counts = [0u32; 32];
+        }
+        return Voted { word: a, mask: 0 };
     }
-    if waiting {
-        *counts = [0u32; 32];
-    }
-    Voted { word: a, mask: 0 }
+    let word = voted_word(disagreeing, agreed, a);
+    let mask = step_counts(n, need, disagreeing, ones, counts);
+    Voted { word, mask }
 }
 
-// 7, of the place of signal i: a count above N-1; at n and above, one that is not zero.
-fn bad_place(n: usize, need: u32, count: u32, i: usize) -> bool
-    ensures { λ r. ⌜ r ≡ badPlace n need count i ⌝ }
+// The sample of a single step, over all places: those at n and above agree, and are zero. So its time is the same for each n.
+pub(crate) fn step_voters(
+    need: u32,
+    agreed: u32,
+    counts: &mut [u32; 32],
+    disagreeing: u32,
+    a: u32,
+) -> Voted
+    requires { ⌜ length (now counts) ≡ 32 ⌝ }
+    ensures { λ r. ⌜ together r (now (counts .exit)) ≡ votersBy 32 need agreed (now (counts .entry)) disagreeing a ⌝ }
 {
-    if i < n {
-        return count > rules::last(need);
-    }
-    count > 0
+    let ones = ones();
+    step_sample(PLACES, need, agreed, true, &ones, counts, disagreeing, a)
 }
 
-// 7, of some place.
-pub(crate) fn bad_places(n: usize, need: u32, counts: [u32; 32]) -> bool
-    ensures { λ r. ⌜ r ≡ badPlaces n need counts ⌝ }
+// A one at its place where a test holds.
+fn one_if(one: u32, test: bool) -> u32
+    ensures { λ r. ⌜ ((i : ℕ) → one ≡ 2 ^ i → r ≡ (if test then 1 else 0) * 2 ^ i) ⌝ }
 {
-    let mut bad = false;
+    if test {
+        return one;
+    }
+    0
+}
+
+// What number 7 asks of all places at once: those that count, and those above N-1.
+pub(crate) fn places_of(need: u32, counts: [u32; 32]) -> Places
+    ensures { λ r. ⌜ r .counting ≡ asWord 32 (λ i. if ltb 0 (getD counts i 0) then 1 else 0) ⌝ }
+    ensures { λ r. ⌜ r .over ≡ asWord 32 (λ i. if ltb (need - 1) (getD counts i 0) then 1 else 0) ⌝ }
+{
+    let ones = ones();
+    let last = rules::last(need);
+    let mut counting = 0u32;
+    let mut over = 0u32;
     let mut i = 0usize;
     while i < PLACES {
-        bad = bad | bad_place(n, need, counts[i], i);
+        let one = ones[i];
+        let found = counts[i];
+        counting = counting | one_if(one, found > 0);
+        over = over | one_if(one, found > last);
         i += 1;
     }
-    bad
+    Places { counting, over }
+}
+
+// A place for each signal that a word can have.
+const PLACES: usize = 32;
+
+// A one at each place, and nowhere else. The table is read in loops that take several signals at once: a shift by the place
+// would be another one for each of them. A run makes it once.
+pub(crate) fn ones() -> [u32; 32]
+    ensures { λ r. ⌜ r ≡ asList 32 (λ i. 2 ^ i) ⌝ }
+{
+    [
+        1,
+        2,
+        4,
+        8,
+        16,
+        32,
+        64,
+        128,
+        256,
+        512,
+        1024,
+        2048,
+        4096,
+        8192,
+        16384,
+        32768,
+        65536,
+        131072,
+        262144,
+        524288,
+        1048576,
+        2097152,
+        4194304,
+        8388608,
+        16777216,
+        33554432,
+        67108864,
+        134217728,
+        268435456,
+        536870912,
+        1073741824,
+        2147483648,
+    ]
 }

@@ -28,16 +28,27 @@ pub(crate) fn write_steps(
     let mut confirm = start.confirm;
     let mut agreed = start.agreed;
     let mut counts = start.counts;
-    let mut waiting = false;
+    let ones = signals::ones();
+    let mut before = 0u32;
     let mut i = 0;
     while i < a.len() {
         let x = a[i];
         let y = b[i];
-        let voted = signals::step_sample(n as usize, need, agreed, waiting, &mut counts, x, y);
+        let disagreeing = signals::disagreement(x, y);
+        let voted = signals::step_sample(
+            n as usize,
+            need,
+            agreed,
+            before != 0,
+            &ones,
+            &mut counts,
+            disagreeing,
+            x,
+        );
         let taken = crate::decide(confirm, voted);
         let answer = taken.answer;
-        // Where both words are equal every count is zero now.
-        waiting = x != y;
+        // Where no signal disagrees every count is zero now.
+        before = disagreeing;
         agreed = voted.word;
         confirm = taken.confirm;
         // The word that is shown is the output that stays, alarm or not.

@@ -6,7 +6,7 @@ use Rattle.rules.specs.Table.{first}
 use Rattle.rules.proofs.OneTest.{not-taken}
 use Rattle.rules.proofs.Width.{outside-or}
 use Rattle.tuple.specs.Tuple.{width, miscounted, badState, clauses, decided, rowsOf, notTaken, stepOf}
-use Rattle.tuple.proofs.Rows.{wide, taken}
+use Rattle.tuple.proofs.Rows.{taken}
 use Rattle.tuple.proofs.Tuple.step.Statement.{statement}
 use Rattle.tuple.proofs.Tuple.step.Tie as tie
 
@@ -29,7 +29,7 @@ returns c =
     (sym (tested .before .admits .ensures) ∙ not-true _ (tested .if1 .taken)))
 
 voters-requires : tie.Need-voters-requires
-voters-requires c κs = let x = asked (c .before) .args in wide (x .self) (x .a) (x .b) (none c)
+voters-requires c κs = none c
 
 returns-2 : tie.Need-returns-2
 unfolding clauses

@@ -1,0 +1,142 @@
+-- The word of disagreements, for every n: its bit i is a one exactly where bit i of the two words differs, and it has none at n or
+-- above. Of two words inside the width it is their XOR. The voters that look at it are the voters, and the voted word is one of
+-- operations on words.
+use mathlib.Core.Path.{_≡_, refl, sym, ap, _∙_}
+use mathlib.Core.Logic.{_↔_}
+use mathlib.Core.List.{List}
+use mathlib.Core.Bool.{Bool, true, false}
+use Prim.Native.Nat.{ℕ, zero, suc, _+_, _-_, _≤_, _<_, _^_, min, max}
+use native.Mathlib.Omega.{arith}
+use lib.Bits.{bitAnd, bitOr, bitXor, and-le-l, and-le-r, or-lt, xor-lt}
+use lib.Dec.{ltb, eqb, lit<}
+use lib.ListN.{getD}
+use lib.Pow.{pow-mono}
+use borrow.Author.Tests.{eqb-true, eqb-false}
+use Rattle.rules.specs.Bits.{bit}
+use Rattle.rules.specs.Choose.{if_then_else_}
+use Rattle.rules.specs.Limits.{outside}
+use Rattle.rules.specs.Signals.{asWord}
+use Rattle.rules.proofs.Bits.{and-bit, or-bit, xor-exactly, not-bit}
+use Rattle.rules.proofs.Signals.{bit-small, word-bit, word-small, word-same, list-same}
+use Rattle.rules.proofs.Width.{inside-lt, lt-inside, words-agree}
+use Rattle.vote.specs.Vote as vote
+use Rattle.vote.specs.declared.Vote.{Vote}
+use Rattle.vote.proofs.Clauses.{byTests}
+use Rattle.tuple.specs.Disagreement.{disagreement, bitBy, countBy, alarmBy, votersBy}
+use Rattle.tuple.specs.declared.Tuple.{Tuple}
+use Rattle.tuple.specs.Tuple.{width, voteNeed, voterOf, signalVote, alarmBit, voters, decided, clauses}
+
+-- a one where a test is false
+abbrev unless : Bool → ℕ
+unless p = if p then 0 else 1
+
+unless-small : (p : Bool) → unless p < 2
+unless-small true = lit< tt
+unless-small false = lit< tt
+
+module _ (n a b : ℕ) where
+  differs-small : (i : ℕ) → unless (eqb (bit i a) (bit i b)) < 2
+  differs-small i = unless-small (eqb (bit i a) (bit i b))
+
+  small : disagreement n a b < 2 ^ n
+  small = word-small (λ i. unless (eqb (bit i a) (bit i b))) differs-small n
+
+  pub disagreement-inside : outside n (disagreement n a b) ≡ false
+  disagreement-inside = lt-inside n (disagreement n a b) small
+
+  at-signal : (i : ℕ) → i < n → bit i (disagreement n a b) ≡ unless (eqb (bit i a) (bit i b))
+  at-signal = word-bit (λ i. unless (eqb (bit i a) (bit i b))) differs-small n
+
+  xor-signal : (i : ℕ) → bit i (bitXor a b) ≡ unless (eqb (bit i a) (bit i b))
+  xor-signal i = go (eqb (bit i a) (bit i b)) refl where
+    go : (p : Bool) → eqb (bit i a) (bit i b) ≡ p → bit i (bitXor a b) ≡ unless p
+    go true e =
+        let none : bit i (bitXor a b) ≡ 1 → ⊥ = λ q. xor-exactly i a b .0 q (eqb-true (bit i a) (bit i b) e) in
+        omega (arith, bit-small i (bitXor a b), none)
+    go false e = xor-exactly i a b .1 (eqb-false (bit i a) (bit i b) e)
+
+  pub disagrees-exactly : (i : ℕ) → i < n → (bit i (disagreement n a b) ≡ 1) ↔ (bit i a ≡ bit i b → ⊥)
+  disagrees-exactly i l = rw (at-signal i l, ← xor-signal i) (xor-exactly i a b)
+
+  -- one operation makes it
+  pub by-xor : outside n a ≡ false → outside n b ≡ false → bitXor a b ≡ disagreement n a b
+  by-xor p q =
+      words-agree n (bitXor a b) (disagreement n a b) (xor-lt n a b (inside-lt n a p) (inside-lt n b q)) small
+      (λ i l. xor-signal i ∙ sym (at-signal i l))
+
+-- a vote of one signal, by whether its two bits are equal and whether it waits
+module _ (s : Vote) (x y : ℕ) where
+  word-told : (p q : Bool) → bitBy (unless p) x (s .word) ≡ byTests s x y p false q .state .word
+  word-told true q = refl
+  word-told false true = refl
+  word-told false false = refl
+
+  count-told : (p q : Bool) → (if eqb (unless p) 0 then 0 else if q then s .count + 1 else s .count) ≡ byTests s x y p false q .state .count
+  count-told true q = refl
+  count-told false true = refl
+  count-told false false = refl
+
+  alarm-told : (p q : Bool) → (if q then 0 else unless p) ≡ alarmBit (byTests s x y p false q .answer)
+  alarm-told true true = refl
+  alarm-told true false = refl
+  alarm-told false true = refl
+  alarm-told false false = refl
+
+module _ (n need agreed : ℕ) (counts : List ℕ) (a b : ℕ) where
+  abbrev here : ℕ → Vote
+  here i = voterOf need agreed (getD counts i 0) i
+
+  abbrev equal : ℕ → Bool
+  equal i = eqb (bit i a) (bit i b)
+
+  abbrev waits : ℕ → Bool
+  waits i = ltb (getD counts i 0) (need - 1)
+
+  -- the voters that look at the word of disagreements are the voters
+  pub look : votersBy n need agreed counts (disagreement n a b) a ≡ voters n need agreed counts a b
+  unfolding vote.clauses
+  look =
+      let d = disagreement n a b in
+      let word = word-same (λ i. bitBy (bit i d) (bit i a) (bit i agreed)) (λ i. signalVote need agreed counts a b i .state .word) n
+      (λ i l. rw (at-signal n a b i l) (word-told (here i) (bit i a) (bit i b) (equal i) (waits i))) in
+      let mask = word-same (λ i. alarmBy need (getD counts i 0) (bit i d)) (λ i. alarmBit (signalVote need agreed counts a b i .answer)) n
+      (λ i l. rw (at-signal n a b i l) (alarm-told (here i) (bit i a) (bit i b) (equal i) (waits i))) in
+      let left = list-same (λ i. countBy need (getD counts i 0) (bit i d)) (λ i. signalVote need agreed counts a b i .state .count) n
+      (λ i l. rw (at-signal n a b i l) (count-told (here i) (bit i a) (bit i b) (equal i) (waits i))) in
+      rw (word, mask, left)
+
+-- so a step's clauses are these, of the voters that look at it
+pub same-clauses : (s : Tuple) (a b : ℕ) → clauses s a b ≡ decided s (votersBy (width s) (voteNeed s) (s .agreed) (s .counts) (disagreement (width s) a b) a)
+unfolding clauses
+same-clauses s a b = ap (decided s) (sym (look (width s) (voteNeed s) (s .agreed) (s .counts) a b))
+
+-- the voted word, by operations on words
+chosen : (d x g : ℕ) → d < 2 → x < 2 → g < 2 → max (min x (1 - d)) (min g d) ≡ bitBy d x g
+chosen zero x g l m k = omega (arith, m)
+chosen (suc zero) x g l m k = omega (arith, k)
+chosen (suc (suc d)) x g l m k = absurd (omega (arith, l))
+
+chosen-small : (p : Bool) {x g : ℕ} → x < 2 → g < 2 → (if p then x else g) < 2
+chosen-small true l m = l
+chosen-small false l m = m
+
+module _ (n d agreed a : ℕ) (wide : n ≤ 32) (p : outside n d ≡ false) (q : outside n a ≡ false) where
+  abbrev by-words : ℕ
+  by-words = bitOr (bitAnd a ((2 ^ 32 - 1) - d)) (bitAnd agreed d)
+
+  words-inside : by-words < 2 ^ n
+  words-inside =
+      or-lt n (bitAnd a ((2 ^ 32 - 1) - d)) (bitAnd agreed d)
+      (omega (arith, and-le-l a ((2 ^ 32 - 1) - d), inside-lt n a q)) (omega (arith, and-le-r agreed d, inside-lt n d p))
+
+  words-signal : (i : ℕ) → i < n → bit i by-words ≡ bitBy (bit i d) (bit i a) (bit i agreed)
+  words-signal i l =
+      let low : d < 2 ^ 32 = omega (arith, inside-lt n d p, pow-mono wide) in
+      rw (or-bit i (bitAnd a ((2 ^ 32 - 1) - d)) (bitAnd agreed d), and-bit i a ((2 ^ 32 - 1) - d), and-bit i agreed d, not-bit 32 i d (omega (arith, l, wide)) low)
+      (chosen (bit i d) (bit i a) (bit i agreed) (bit-small i d) (bit-small i a) (bit-small i agreed))
+
+  pub by-bits : by-words ≡ asWord n (λ i. bitBy (bit i d) (bit i a) (bit i agreed))
+  by-bits =
+      let f : ℕ → ℕ = λ i. bitBy (bit i d) (bit i a) (bit i agreed) in
+      let small : (i : ℕ) → f i < 2 = λ i. chosen-small (eqb (bit i d) 0) (bit-small i a) (bit-small i agreed) in
+      words-agree n by-words (asWord n f) words-inside (word-small f small n) (λ i l. words-signal i l ∙ sym (word-bit f small n i l))
