@@ -2,6 +2,8 @@
  * Compares the library with plain C: first every place that a call writes and
  * every value it returns, then the time, the state's size and the stack.
  * Status 1 if an answer differs. With --quick the batches are short and few.
+ * For bench/run --instructions: --rows prints the rows' names, and
+ * --call ROW SIDE CALLS only calls, for who counts from outside.
  */
 #define _POSIX_C_SOURCE 200809L
 #include <stdio.h>
@@ -178,8 +180,28 @@ static void print_stacks(void)
   }
 }
 
+static void print_names(void)
+{
+  for (size_t i = 0; i < sizeof rows / sizeof *rows; i++) printf("%s\n", rows[i].name);
+}
+
+static void only_call(const struct row *row, const struct side *side, size_t calls)
+{
+  make_inputs(row);
+  for (size_t i = 0; i < calls; i++) row->call(side, &inputs[i % TRACES], &plain_out);
+}
+
 int main(int argc, char **argv)
 {
+  if (argc == 2 && strcmp(argv[1], "--rows") == 0) {
+    print_names();
+    return 0;
+  }
+  if (argc == 5 && strcmp(argv[1], "--call") == 0 && strtoul(argv[2], NULL, 10) < sizeof rows / sizeof *rows) {
+    const struct side *side = strcmp(argv[3], "plain") == 0 ? &plain_side : &library_side;
+    only_call(&rows[strtoul(argv[2], NULL, 10)], side, strtoul(argv[4], NULL, 10));
+    return 0;
+  }
   const int quick = argc == 2 && strcmp(argv[1], "--quick") == 0;
   if (argc > 2 || (argc == 2 && !quick)) {
     fprintf(stderr, "usage: %s [--quick]\n", argv[0]);
