@@ -25,18 +25,15 @@ use Rattle.vote.proofs.Clauses.{byTests}
 use Rattle.tuple.specs.Disagreement.{disagreement, bitBy, countBy, alarmBy, votersBy}
 use Rattle.tuple.specs.declared.Tuple.{Tuple}
 use Rattle.tuple.specs.Tuple.{width, voteNeed, voterOf, signalVote, alarmBit, voters, decided, clauses}
+use Rattle.tuple.proofs.Small.{either-small}
 
 -- a one where a test is false
 abbrev unless : Bool → ℕ
 unless p = if p then 0 else 1
 
-unless-small : (p : Bool) → unless p < 2
-unless-small true = lit< tt
-unless-small false = lit< tt
-
 module _ (n a b : ℕ) where
   differs-small : (i : ℕ) → unless (eqb (bit i a) (bit i b)) < 2
-  differs-small i = unless-small (eqb (bit i a) (bit i b))
+  differs-small i = either-small (eqb (bit i a) (bit i b)) (lit< tt) (lit< tt)
 
   small : disagreement n a b < 2 ^ n
   small = word-small (λ i. unless (eqb (bit i a) (bit i b))) differs-small n
@@ -116,10 +113,6 @@ chosen zero x g l m k = omega (arith, m)
 chosen (suc zero) x g l m k = omega (arith, k)
 chosen (suc (suc d)) x g l m k = absurd (omega (arith, l))
 
-chosen-small : (p : Bool) {x g : ℕ} → x < 2 → g < 2 → (if p then x else g) < 2
-chosen-small true l m = l
-chosen-small false l m = m
-
 module _ (n d agreed a : ℕ) (wide : n ≤ 32) (p : outside n d ≡ false) (q : outside n a ≡ false) where
   abbrev by-words : ℕ
   by-words = bitOr (bitAnd a ((2 ^ 32 - 1) - d)) (bitAnd agreed d)
@@ -138,5 +131,5 @@ module _ (n d agreed a : ℕ) (wide : n ≤ 32) (p : outside n d ≡ false) (q :
   pub by-bits : by-words ≡ asWord n (λ i. bitBy (bit i d) (bit i a) (bit i agreed))
   by-bits =
       let f : ℕ → ℕ = λ i. bitBy (bit i d) (bit i a) (bit i agreed) in
-      let small : (i : ℕ) → f i < 2 = λ i. chosen-small (eqb (bit i d) 0) (bit-small i a) (bit-small i agreed) in
+      let small : (i : ℕ) → f i < 2 = λ i. either-small (eqb (bit i d) 0) (bit-small i a) (bit-small i agreed) in
       words-agree n by-words (asWord n f) words-inside (word-small f small n) (λ i l. words-signal i l ∙ sym (word-bit f small n i l))

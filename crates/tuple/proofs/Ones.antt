@@ -16,6 +16,7 @@ use Rattle.rules.specs.Choose.{if_then_else_}
 use Rattle.rules.specs.Signals.{asWord, asList}
 use Rattle.rules.proofs.Signals.{word-small, word-more, list-at}
 use Rattle.tuple.specs.Disagreement.{countBy, alarmBy}
+use Rattle.tuple.proofs.Small.{either-small}
 
 pub common : (i w : ℕ) → bitAnd w (2 ^ i) ≡ bit i w * 2 ^ i
 common i w =
@@ -41,7 +42,4 @@ module _ (need count : ℕ) where
     go false = refl
 
   pub by-small : {x : ℕ} → x < 2 → alarmBy need count x < 2
-  by-small {x} l = go (ltb count (need - 1)) where
-    go : (q : Bool) → (if q then 0 else x) < 2
-    go true = lit< tt
-    go false = l
+  by-small l = either-small (ltb count (need - 1)) (lit< tt) l

@@ -1,11 +1,12 @@
 -- What a signal's voter gives is a bit, so what is put together from them is a word inside the width. Fresh counts are zero.
 use mathlib.Core.Path.{_≡_, refl}
 use mathlib.Core.List.{List}
-use mathlib.Core.Bool.{false}
+use mathlib.Core.Bool.{Bool, true, false}
 use Prim.Native.Nat.{ℕ, zero, suc, _<_, _^_}
 use lib.Dec.{lit<}
 use lib.ListN.{getD, replicate}
 use Rattle.rules.specs.Bits.{bit}
+use Rattle.rules.specs.Choose.{if_then_else_}
 use Rattle.rules.specs.Signals.{asWord}
 use Rattle.rules.proofs.Signals.{bit-small, word-small}
 use Rattle.vote.specs.declared.VoteAnswer.{VoteAnswer}
@@ -18,6 +19,11 @@ pub zeros : (k i : ℕ) → _≡_ {A = ℕ} (getD (replicate k 0) i 0) 0
 zeros zero i = refl
 zeros (suc k) zero = refl
 zeros (suc k) (suc i) = zeros k i
+
+-- a choice between bits is one
+pub either-small : (p : Bool) {x y : ℕ} → x < 2 → y < 2 → (if p then x else y) < 2
+either-small true l m = l
+either-small false l m = m
 
 pub alarm-small : (v : VoteAnswer) → alarmBit v < 2
 alarm-small (Agreed w) = lit< tt

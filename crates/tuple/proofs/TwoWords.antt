@@ -17,16 +17,14 @@ use Rattle.rules.proofs.Signals.{word-small, word-bit, word-zero, none-below, n
 use Rattle.rules.proofs.Tables.{or-neither}
 use Rattle.rules.proofs.Width.{within, high-zero}
 use Rattle.tuple.specs.Tuple.{badPlace, badPlaces}
+use Rattle.tuple.proofs.Small.{either-small}
 
 -- a one where the count of a place is above a limit
 abbrev pub over : ℕ → List ℕ → ℕ → ℕ
 over limit counts i = if ltb limit (getD counts i 0) then 1 else 0
 
 pub over-small : (limit : ℕ) (counts : List ℕ) (i : ℕ) → over limit counts i < 2
-over-small limit counts i = go (ltb limit (getD counts i 0)) where
-  go : (p : Bool) → (if p then 1 else 0) < 2
-  go true = lit< tt
-  go false = lit< tt
+over-small limit counts i = either-small (ltb limit (getD counts i 0)) (lit< tt) (lit< tt)
 
 zero-told : (p : Bool) → _≡_ {A = ℕ} (if p then 1 else 0) 0 → p ≡ false
 zero-told true e = absurd (omega (arith, e))

@@ -1,6 +1,6 @@
 -- `Tuple::admits` meets its contract: the one test, with the places as one more reason for row 7.
 use mathlib.Core.Path.{_≡_, refl, sym, ap, ap₂, _∙_}
-use mathlib.Core.Bool.{Bool, true, false, not, _&&_, _||_, or-true, or-assoc}
+use mathlib.Core.Bool.{Bool, true, false, not, _&&_, _||_, or-true, or-assoc, Bool·not-not}
 use Prim.Native.Nat.{ℕ, _-_}
 use lib.Bits.{bitOr}
 use lib.Dec.{ltb, eqb}
@@ -16,10 +16,6 @@ use Rattle.tuple.specs.Tuple.{width, voteNeed, miscounted, badState, row
 use Rattle.tuple.proofs.TwoWords.{over, by-two-words}
 use Rattle.tuple.proofs.Tuple.admits.Statement.{statement}
 use Rattle.tuple.proofs.Tuple.admits.Tie as tie
-
-not-not : (p : Bool) → not (not p) ≡ p
-not-not true = refl
-not-not false = refl
 
 -- the reasons for row 7 in the order of the definition: p the places above N-1, l the count, c the places that count, g, x and y the
 -- agreed word, the input and the output
@@ -51,7 +47,7 @@ module _ (s : Tuple) (a b : ℕ) where
   tested : admits (none-above && counted (f .need) (f .count)) (f .n) (bitOr (bitOr a b) stored) ≡ eqb (first (rowsOf s a b)) 0
   tested =
       let late = ltb (f .need - 1) (f .count) in
-      ap (λ (p : Bool). admits (p && counted (f .need) (f .count)) (f .n) (bitOr (bitOr a b) stored)) (sym (not-not none-above))
+      ap (λ (p : Bool). admits (p && counted (f .need) (f .count)) (f .n) (bitOr (bitOr a b) stored)) (sym (Bool·not-not none-above))
       ∙ admits-exactly (miscounted s) (not none-above || late) (f .n) (bitOr a b) stored (both-counted false (not none-above) (miscounted s) late) (outside-or (f .n) a b) spoilt
 
 returns : tie.Need-returns
