@@ -54,9 +54,9 @@ module _
     rest d i l m = place-above (λ k. countBy need (getD counts k 0) (bit k d)) counts n i l ∙ above i l m
 
     -- none disagrees
-    word-taken : a ≡ asWord n (λ i. bitBy (bit i 0) (bit i a) (bit i agreed))
+    word-taken : a ≡ asWord n (λ i. bitBy (bit i a) (bit i agreed) (bit i 0))
     word-taken =
-        let f : ℕ → ℕ = λ i. bitBy (bit i 0) (bit i a) (bit i agreed) in
+        let f : ℕ → ℕ = λ i. bitBy (bit i a) (bit i agreed) (bit i 0) in
         let small : (i : ℕ) → f i < 2 = λ i. rw (zero-bit i) (bit-small i a) in
         words-agree n a (asWord n f) (inside-lt n a inside) (word-small f small n) (λ i l. sym (word-bit f small n i l ∙ rw (zero-bit i)))
 
@@ -72,14 +72,14 @@ module _
         (λ h. below n 0 i h ∙ count-zero need (getD counts i 0) (zero-bit i) ∙ sym (zeros 32 i))
         (λ h. rest 0 i (omega arith) (rw (as-long n 0 wide) at l) ∙ sym (zeros 32 i))))
 
-    pub agreeing : _≡_ {A = Voters} (record { word = a; mask = 0; counts = replicate 32 0 }) (votersBy n need agreed counts 0 a)
+    pub agreeing : _≡_ {A = Voters} (record { word = a; mask = 0; counts = replicate 32 0 }) (votersBy n need agreed counts a 0)
     agreeing = rw (← word-taken, ← none-alarms, ← none-counts)
 
     -- the signals that disagree are among the n
-    pub all-places : (d : ℕ) → outside n d ≡ false → votersBy 32 need agreed counts d a ≡ votersBy n need agreed counts d a
+    pub all-places : (d : ℕ) → outside n d ≡ false → votersBy 32 need agreed counts a d ≡ votersBy n need agreed counts a d
     all-places d among =
         let agrees : (i : ℕ) → n ≤ i → bit i d ≡ 0 = high-zero n d (inside-lt n d among) in
-        let word = word-ends (λ i. bitBy (bit i d) (bit i a) (bit i agreed)) n 32 wide (λ i l. rw (agrees i l) (high-zero n a (inside-lt n a inside) i l)) in
+        let word = word-ends (λ i. bitBy (bit i a) (bit i agreed) (bit i d)) n 32 wide (λ i l. rw (agrees i l) (high-zero n a (inside-lt n a inside) i l)) in
         let mask = word-ends (λ i. alarmBy need (getD counts i 0) (bit i d)) n 32 wide (λ i l. silent need (getD counts i 0) (agrees i l)) in
         let same : after 32 d ≡ after n d =
         ext-getD 0 (after 32 d) (after n d) (as-long 32 d (omega arith) ∙ sym (as-long n d wide))

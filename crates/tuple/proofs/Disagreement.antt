@@ -1,6 +1,6 @@
--- The word of disagreements, for every n: its bit i is a one exactly where bit i of the two words differs, and it has none at n or
--- above. Of two words inside the width it is their XOR. The voters that look at it are the voters, and the voted word is one of
--- operations on words.
+-- The word of disagreements, for every n: its bit i, for i below n, is a one exactly where bit i of the two words differs, and it
+-- has none at n or above. Of two words inside the width it is their XOR. The voters that look at it are the voters, and their
+-- word is (a AND NOT d) OR (agreed AND d).
 use mathlib.Core.Path.{_≡_, refl, sym, ap, _∙_}
 use mathlib.Core.Logic.{_↔_}
 use mathlib.Core.List.{List}
@@ -61,9 +61,9 @@ module _ (n a b : ℕ) where
       words-agree n (bitXor a b) (disagreement n a b) (xor-lt n a b (inside-lt n a p) (inside-lt n b q)) small
       (λ i l. xor-signal i ∙ sym (at-signal i l))
 
--- a vote of one signal, by whether its two bits are equal and whether it waits
+-- a vote of one signal, by whether its two bits are equal and whether its count is below N-1
 module _ (s : Vote) (x y : ℕ) where
-  word-told : (p q : Bool) → bitBy (unless p) x (s .word) ≡ byTests s x y p false q .state .word
+  word-told : (p q : Bool) → bitBy x (s .word) (unless p) ≡ byTests s x y p false q .state .word
   word-told true q = refl
   word-told false true = refl
   word-told false false = refl
@@ -86,34 +86,34 @@ module _ (n need agreed : ℕ) (counts : List ℕ) (a b : ℕ) where
   abbrev equal : ℕ → Bool
   equal i = eqb (bit i a) (bit i b)
 
-  abbrev waits : ℕ → Bool
-  waits i = ltb (getD counts i 0) (need - 1)
+  abbrev low : ℕ → Bool
+  low i = ltb (getD counts i 0) (need - 1)
 
   -- the voters that look at the word of disagreements are the voters
-  pub look : votersBy n need agreed counts (disagreement n a b) a ≡ voters n need agreed counts a b
+  pub look : votersBy n need agreed counts a (disagreement n a b) ≡ voters n need agreed counts a b
   unfolding vote.clauses
   look =
       let d = disagreement n a b in
-      let word = word-same (λ i. bitBy (bit i d) (bit i a) (bit i agreed)) (λ i. signalVote need agreed counts a b i .state .word) n
-      (λ i l. rw (at-signal n a b i l) (word-told (here i) (bit i a) (bit i b) (equal i) (waits i))) in
+      let word = word-same (λ i. bitBy (bit i a) (bit i agreed) (bit i d)) (λ i. signalVote need agreed counts a b i .state .word) n
+      (λ i l. rw (at-signal n a b i l) (word-told (here i) (bit i a) (bit i b) (equal i) (low i))) in
       let mask = word-same (λ i. alarmBy need (getD counts i 0) (bit i d)) (λ i. alarmBit (signalVote need agreed counts a b i .answer)) n
-      (λ i l. rw (at-signal n a b i l) (alarm-told (here i) (bit i a) (bit i b) (equal i) (waits i))) in
+      (λ i l. rw (at-signal n a b i l) (alarm-told (here i) (bit i a) (bit i b) (equal i) (low i))) in
       let left = list-same (λ i. countBy need (getD counts i 0) (bit i d)) (λ i. signalVote need agreed counts a b i .state .count) n
-      (λ i l. rw (at-signal n a b i l) (count-told (here i) (bit i a) (bit i b) (equal i) (waits i))) in
+      (λ i l. rw (at-signal n a b i l) (count-told (here i) (bit i a) (bit i b) (equal i) (low i))) in
       rw (word, mask, left)
 
 -- so a step's clauses are these, of the voters that look at it
-pub same-clauses : (s : Tuple) (a b : ℕ) → clauses s a b ≡ decided s (votersBy (width s) (voteNeed s) (s .agreed) (s .counts) (disagreement (width s) a b) a)
+pub same-clauses : (s : Tuple) (a b : ℕ) → clauses s a b ≡ decided s (votersBy (width s) (voteNeed s) (s .agreed) (s .counts) a (disagreement (width s) a b))
 unfolding clauses
 same-clauses s a b = ap (decided s) (sym (look (width s) (voteNeed s) (s .agreed) (s .counts) a b))
 
 -- the voted word, by operations on words
-chosen : (d x g : ℕ) → d < 2 → x < 2 → g < 2 → max (min x (1 - d)) (min g d) ≡ bitBy d x g
+chosen : (d x g : ℕ) → d < 2 → x < 2 → g < 2 → max (min x (1 - d)) (min g d) ≡ bitBy x g d
 chosen zero x g l m k = omega (arith, m)
 chosen (suc zero) x g l m k = omega (arith, k)
 chosen (suc (suc d)) x g l m k = absurd (omega (arith, l))
 
-module _ (n d agreed a : ℕ) (wide : n ≤ 32) (p : outside n d ≡ false) (q : outside n a ≡ false) where
+module _ (n a agreed d : ℕ) (wide : n ≤ 32) (q : outside n a ≡ false) (p : outside n d ≡ false) where
   abbrev by-words : ℕ
   by-words = bitOr (bitAnd a ((2 ^ 32 - 1) - d)) (bitAnd agreed d)
 
@@ -122,14 +122,14 @@ module _ (n d agreed a : ℕ) (wide : n ≤ 32) (p : outside n d ≡ false) (q :
       or-lt n (bitAnd a ((2 ^ 32 - 1) - d)) (bitAnd agreed d)
       (omega (arith, and-le-l a ((2 ^ 32 - 1) - d), inside-lt n a q)) (omega (arith, and-le-r agreed d, inside-lt n d p))
 
-  words-signal : (i : ℕ) → i < n → bit i by-words ≡ bitBy (bit i d) (bit i a) (bit i agreed)
+  words-signal : (i : ℕ) → i < n → bit i by-words ≡ bitBy (bit i a) (bit i agreed) (bit i d)
   words-signal i l =
-      let low : d < 2 ^ 32 = omega (arith, inside-lt n d p, pow-mono wide) in
-      rw (or-bit i (bitAnd a ((2 ^ 32 - 1) - d)) (bitAnd agreed d), and-bit i a ((2 ^ 32 - 1) - d), and-bit i agreed d, not-bit 32 i d (omega (arith, l, wide)) low)
+      let narrow : d < 2 ^ 32 = omega (arith, inside-lt n d p, pow-mono wide) in
+      rw (or-bit i (bitAnd a ((2 ^ 32 - 1) - d)) (bitAnd agreed d), and-bit i a ((2 ^ 32 - 1) - d), and-bit i agreed d, not-bit 32 i d (omega (arith, l, wide)) narrow)
       (chosen (bit i d) (bit i a) (bit i agreed) (bit-small i d) (bit-small i a) (bit-small i agreed))
 
-  pub by-bits : by-words ≡ asWord n (λ i. bitBy (bit i d) (bit i a) (bit i agreed))
+  pub by-bits : by-words ≡ asWord n (λ i. bitBy (bit i a) (bit i agreed) (bit i d))
   by-bits =
-      let f : ℕ → ℕ = λ i. bitBy (bit i d) (bit i a) (bit i agreed) in
+      let f : ℕ → ℕ = λ i. bitBy (bit i a) (bit i agreed) (bit i d) in
       let small : (i : ℕ) → f i < 2 = λ i. either-small (eqb (bit i d) 0) (bit-small i a) (bit-small i agreed) in
       words-agree n by-words (asWord n f) words-inside (word-small f small n) (λ i l. words-signal i l ∙ sym (word-bit f small n i l))

@@ -52,7 +52,7 @@ module _ (n need : ℕ) (s : Tuple) (g : Sound n s) (votes : voteNeed s ≡ need
 
     all-rest : outside n a ≡ false → disagreement n a b ≡ 0 → counts ≡ replicate 32 0
     all-rest inside none =
-        let looked = voted ∙ sym (look n need (s .agreed) (s .counts) a b) ∙ ap (λ (d : ℕ). votersBy n need (s .agreed) (s .counts) d a) none in
+        let looked = voted ∙ sym (look n need (s .agreed) (s .counts) a b) ∙ ap (λ (d : ℕ). votersBy n need (s .agreed) (s .counts) a d) none in
         ap (λ (x : Voters). x .counts) (looked ∙ sym (agreeing n need (s .agreed) (s .counts) a wide long (above-zero n s g) inside))
 
     module _ (d : Decided) (decides : Decides (s .confirm) v d) where

@@ -26,10 +26,14 @@ common i w =
 pub one-of : {ones : List ℕ} → ones ≡ asList 32 (λ k. 2 ^ k) → (i : ℕ) → i < 32 → getD ones i 0 ≡ 2 ^ i
 one-of e i l = rw e (list-at (λ k. 2 ^ k) 32 i l)
 
+pub one-placed : (t : Bool) (i : ℕ) {one v : ℕ} → one ≡ 2 ^ i → v ≡ (if t then one else 0) → v ≡ (if t then 1 else 0) * 2 ^ i
+one-placed true i o e = omega (arith, o, e)
+one-placed false i o e = omega (arith, e)
+
 pub in-front : (f : ℕ → ℕ) → ((i : ℕ) → f i < 2) → (i : ℕ) → bitOr (asWord i f) (f i * 2 ^ i) ≡ asWord (i + 1) f
 in-front f small i = or-shifted-r (f i) i (asWord i f) (word-small f small i) ∙ add-comm (f i * 2 ^ i) (asWord i f) ∙ sym (word-more f i)
 
--- a signal that is looked at where it stands: at the place of p
+-- a signal that is looked at where it stands: x times the power p of its place
 module _ (need count : ℕ) where
   pub count-placed : (x p : ℕ) → 1 ≤ p → countBy need count (x * p) ≡ countBy need count x
   count-placed zero p l = rw (zero-mul p)
@@ -41,5 +45,5 @@ module _ (need count : ℕ) where
     go true = sym (zero-mul p)
     go false = refl
 
-  pub by-small : {x : ℕ} → x < 2 → alarmBy need count x < 2
-  by-small l = either-small (ltb count (need - 1)) (lit< tt) l
+  pub alarm-by-small : {x : ℕ} → x < 2 → alarmBy need count x < 2
+  alarm-by-small l = either-small (ltb count (need - 1)) (lit< tt) l

@@ -1,4 +1,5 @@
--- What number 7 asks of the places, by two words, for every n and N: those that count are inside the width, and none is above N-1.
+-- What number 7 asks of the places, by two words, for every n and N: those that count are inside the width, and none counts above
+-- N-1.
 use mathlib.Core.Path.{_≡_, refl, sym, _∙_}
 use mathlib.Core.List.{List}
 use mathlib.Core.Logic.{dite}
@@ -20,11 +21,11 @@ use Rattle.tuple.specs.Tuple.{badPlace, badPlaces}
 use Rattle.tuple.proofs.Small.{either-small}
 
 -- a one where the count of a place is above a limit
-abbrev pub over : ℕ → List ℕ → ℕ → ℕ
-over limit counts i = if ltb limit (getD counts i 0) then 1 else 0
+abbrev pub beyond : ℕ → List ℕ → ℕ → ℕ
+beyond limit counts i = if ltb limit (getD counts i 0) then 1 else 0
 
-pub over-small : (limit : ℕ) (counts : List ℕ) (i : ℕ) → over limit counts i < 2
-over-small limit counts i = either-small (ltb limit (getD counts i 0)) (lit< tt) (lit< tt)
+pub beyond-small : (limit : ℕ) (counts : List ℕ) (i : ℕ) → beyond limit counts i < 2
+beyond-small limit counts i = either-small (ltb limit (getD counts i 0)) (lit< tt) (lit< tt)
 
 zero-told : (p : Bool) → _≡_ {A = ℕ} (if p then 1 else 0) 0 → p ≡ false
 zero-told true e = absurd (omega (arith, e))
@@ -38,16 +39,16 @@ same-answer false false f g = refl
 
 module _ (n need : ℕ) (counts : List ℕ) where
   abbrev counting : ℕ
-  counting = asWord 32 (over 0 counts)
+  counting = asWord 32 (beyond 0 counts)
 
   abbrev above : ℕ
-  above = asWord 32 (over (need - 1) counts)
+  above = asWord 32 (beyond (need - 1) counts)
 
   abbrev bad : ℕ → Bool
   bad i = badPlace n need (getD counts i 0) i
 
   small : counting < 2 ^ 32
-  small = word-small (over 0 counts) (over-small 0 counts) 32
+  small = word-small (beyond 0 counts) (beyond-small 0 counts) 32
 
   -- a place that is not bad is not above N-1, and at n and above it does not count
   not-above : (i : ℕ) → bad i ≡ false → ltb (need - 1) (getD counts i 0) ≡ false
@@ -68,20 +69,20 @@ module _ (n need : ℕ) (counts : List ℕ) where
   told : badPlaces n need counts ≡ false → not (eqb above 0) || outside n counting ≡ false
   told e =
       let fine = not-at bad 32 e in
-      let none : above ≡ 0 = word-zero (over (need - 1) counts) (over-small (need - 1) counts) 32 .1 (λ i l. rw (not-above i (fine i l))) in
+      let none : above ≡ 0 = word-zero (beyond (need - 1) counts) (beyond-small (need - 1) counts) 32 .1 (λ i l. rw (not-above i (fine i l))) in
       let inside : Within n counting =
       λ k l. dite (decLt k 32)
-      (λ h. word-bit (over 0 counts) (over-small 0 counts) 32 k h ∙ rw (not-counting k l (fine k h)))
+      (λ h. word-bit (beyond 0 counts) (beyond-small 0 counts) 32 k h ∙ rw (not-counting k l (fine k h)))
       (λ h. high-zero 32 counting small k (omega arith)) in
       rw (eq-eqb above 0 none) (within n counting small .1 inside)
 
   asked : not (eqb above 0) || outside n counting ≡ false → badPlaces n need counts ≡ false
   asked e =
       let both = or-neither (not (eqb above 0)) (outside n counting) e in
-      let none = word-zero (over (need - 1) counts) (over-small (need - 1) counts) 32 .0 (eqb-true above 0 (not-false (eqb above 0) (both .0))) in
+      let none = word-zero (beyond (need - 1) counts) (beyond-small (need - 1) counts) 32 .0 (eqb-true above 0 (not-false (eqb above 0) (both .0))) in
       none-below bad 32
       (λ i l. not-bad i (zero-told (ltb (need - 1) (getD counts i 0)) (none i l))
-      (λ h. zero-told (ltb 0 (getD counts i 0)) (sym (word-bit (over 0 counts) (over-small 0 counts) 32 i l) ∙ within n counting small .0 (both .1) i h)))
+      (λ h. zero-told (ltb 0 (getD counts i 0)) (sym (word-bit (beyond 0 counts) (beyond-small 0 counts) 32 i l) ∙ within n counting small .0 (both .1) i h)))
 
   pub by-two-words : badPlaces n need counts ≡ not (eqb above 0) || outside n counting
   by-two-words = same-answer (badPlaces n need counts) (not (eqb above 0) || outside n counting) told asked

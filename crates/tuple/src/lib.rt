@@ -55,7 +55,7 @@ struct Voted {
     pub mask: u32,
 }
 
-// The places that count, and those above N-1, as a word each.
+// The places that count, and those whose count is above N-1, as a word each.
 struct Places {
     pub counting: u32,
     pub over: u32,
@@ -224,10 +224,10 @@ impl Tuple {
         requires { ⌜ first (rowsOf self a b) ≡ 0 ⌝ }
         ensures { λ r. ⌜ r ≡ votersOf self a b ⌝ }
     {
+        let disagreeing = signals::disagreement(a, b);
         let need = self.vote_need();
         let mut counts = self.counts;
-        let disagreeing = signals::disagreement(a, b);
-        let voted = signals::step_voters(need, self.agreed, &mut counts, disagreeing, a);
+        let voted = signals::step_voters(need, self.agreed, &mut counts, a, disagreeing);
         Voters {
             word: voted.word,
             mask: voted.mask,
@@ -235,8 +235,8 @@ impl Tuple {
         }
     }
 
-    // Whether a step is taken, by one test: its table gives no number. No place at n or above counts where the word of those
-    // that do is inside the width.
+    // Whether a step is taken, by one test: its table gives no number. The places that count are one more word: it is inside the
+    // width exactly where none at n or above counts.
     fn admits(self, a: u32, b: u32) -> bool
         ensures { λ r. ⌜ r ≡ eqb (first (rowsOf self a b)) 0 ⌝ }
     {

@@ -1,10 +1,11 @@
 // A sample of the voters, top to bottom: the signals that disagree, as one word, and what each signal does that looks at it.
+// Below it: what number 7 asks of the counts, and the table of the places.
 use crate::Places;
 use crate::Voted;
 ghost use mathlib.Core.Path.{_≡_};
 ghost use mathlib.Core.Bool.{false};
 ghost use mathlib.Core.List.{_++_};
-ghost use Prim.Native.Nat.{ℕ, _≤_, _-_, _*_, _^_};
+ghost use Prim.Native.Nat.{ℕ, _≤_, _-_, _^_};
 ghost use lib.Dec.{ltb};
 ghost use lib.ListN.{length, getD, drop};
 ghost use Rattle.rules.specs.Bits.{bit};
@@ -22,14 +23,14 @@ pub(crate) fn disagreement(a: u32, b: u32) -> u32
 }
 
 // A signal that agrees takes the units' bit, one that disagrees keeps its agreed bit.
-fn voted_word(disagreeing: u32, agreed: u32, a: u32) -> u32
-    ensures { λ r. ⌜ ((n : ℕ) → n ≤ 32 → outside n disagreeing ≡ false → outside n a ≡ false
-        → r ≡ asWord n (λ i. bitBy (bit i disagreeing) (bit i a) (bit i agreed))) ⌝ }
+fn voted_word(a: u32, agreed: u32, disagreeing: u32) -> u32
+    ensures { λ r. ⌜ ((n : ℕ) → n ≤ 32 → outside n a ≡ false → outside n disagreeing ≡ false
+        → r ≡ asWord n (λ i. bitBy (bit i a) (bit i agreed) (bit i disagreeing))) ⌝ }
 {
     (a & !disagreeing) | (agreed & disagreeing)
 }
 
-// The count of a signal that agrees is zero; one that disagrees goes on counting, up to N-1.
+// The count of a signal that agrees is zero; one that disagrees, a one at its place, goes on counting, up to N-1.
 fn next_count(need: u32, count: u32, disagrees: u32) -> u32
     ensures { λ r. ⌜ r ≡ countBy need count disagrees ⌝ }
 {
@@ -42,7 +43,7 @@ fn next_count(need: u32, count: u32, disagrees: u32) -> u32
     count
 }
 
-// A signal that disagrees, and whose count is N-1 already, alarms: a one at its place.
+// A signal that disagrees, and whose count is N-1 already, alarms: the one at its place.
 fn alarm_at(need: u32, count: u32, disagrees: u32) -> u32
     ensures { λ r. ⌜ r ≡ alarmBy need count disagrees ⌝ }
 {
@@ -53,13 +54,13 @@ fn alarm_at(need: u32, count: u32, disagrees: u32) -> u32
     }
 }
 
-// The counts of n signals step in place; the signals that alarm are told.
+// The counts of n signals step in place, and the signals that alarm are told. The table has a one for each place.
 fn step_counts(
     n: usize,
     need: u32,
-    disagreeing: u32,
     ones: &[u32; 32],
     counts: &mut [u32; 32],
+    disagreeing: u32,
 ) -> u32
     requires { ⌜ (n ≤ 32) × (length (now counts) ≡ 32) × (now ones ≡ asList 32 (λ i. 2 ^ i)) ⌝ }
     ensures { λ r. ⌜ r ≡ asWord n (λ i. alarmBy need (getD (now (counts .entry)) i 0) (bit i disagreeing)) ⌝ }
@@ -78,8 +79,8 @@ fn step_counts(
     mask
 }
 
-// A sample of the voters of n signals, none looking at another. Where none disagrees every count is zero: it is set so if some
-// voter may wait.
+// A sample of the voters of n signals, none looking at another. Where none disagrees every count becomes zero; they are written
+// only if some voter waits, that is, if a count may be another.
 pub(crate) fn step_sample(
     n: usize,
     need: u32,
@@ -87,13 +88,13 @@ pub(crate) fn step_sample(
     waiting: bool,
     ones: &[u32; 32],
     counts: &mut [u32; 32],
-    disagreeing: u32,
     a: u32,
+    disagreeing: u32,
 ) -> Voted
     requires { ⌜ (n ≤ 32) × (length (now counts) ≡ 32) × (now ones ≡ asList 32 (λ i. 2 ^ i)) ⌝ }
-    requires { ⌜ (outside n disagreeing ≡ false) × (outside n a ≡ false) ⌝ }
+    requires { ⌜ (outside n a ≡ false) × (outside n disagreeing ≡ false) ⌝ }
     requires { ⌜ Resting n waiting (now counts) ⌝ }
-    ensures { λ r. ⌜ together r (now (counts .exit)) ≡ votersBy n need agreed (now (counts .entry)) disagreeing a ⌝ }
+    ensures { λ r. ⌜ together r (now (counts .exit)) ≡ votersBy n need agreed (now (counts .entry)) a disagreeing ⌝ }
 {
     if disagreeing == 0 {
         if waiting {
@@ -101,29 +102,30 @@ pub(crate) fn step_sample(
         }
         return Voted { word: a, mask: 0 };
     }
-    let word = voted_word(disagreeing, agreed, a);
-    let mask = step_counts(n, need, disagreeing, ones, counts);
+    let word = voted_word(a, agreed, disagreeing);
+    let mask = step_counts(n, need, ones, counts, disagreeing);
     Voted { word, mask }
 }
 
-// The sample of a single step, over all places: those at n and above agree, and are zero. So its time is the same for each n.
+// The sample of a single step looks at all places: it takes as long for each n, and who calls knows that the others agree and
+// are zero. Nothing is known of the sample before, so any voter may wait.
 pub(crate) fn step_voters(
     need: u32,
     agreed: u32,
     counts: &mut [u32; 32],
-    disagreeing: u32,
     a: u32,
+    disagreeing: u32,
 ) -> Voted
     requires { ⌜ length (now counts) ≡ 32 ⌝ }
-    ensures { λ r. ⌜ together r (now (counts .exit)) ≡ votersBy 32 need agreed (now (counts .entry)) disagreeing a ⌝ }
+    ensures { λ r. ⌜ together r (now (counts .exit)) ≡ votersBy 32 need agreed (now (counts .entry)) a disagreeing ⌝ }
 {
     let ones = ones();
-    step_sample(PLACES, need, agreed, true, &ones, counts, disagreeing, a)
+    step_sample(PLACES, need, agreed, true, &ones, counts, a, disagreeing)
 }
 
 // A one at its place where a test holds.
 fn one_if(one: u32, test: bool) -> u32
-    ensures { λ r. ⌜ ((i : ℕ) → one ≡ 2 ^ i → r ≡ (if test then 1 else 0) * 2 ^ i) ⌝ }
+    ensures { λ r. ⌜ r ≡ (if test then one else 0) ⌝ }
 {
     if test {
         return one;
@@ -131,7 +133,7 @@ fn one_if(one: u32, test: bool) -> u32
     0
 }
 
-// What number 7 asks of all places at once: those that count, and those above N-1.
+// What number 7 asks of all places at once: those that count, and those whose count is above N-1.
 pub(crate) fn places_of(need: u32, counts: [u32; 32]) -> Places
     ensures { λ r. ⌜ r .counting ≡ asWord 32 (λ i. if ltb 0 (getD counts i 0) then 1 else 0) ⌝ }
     ensures { λ r. ⌜ r .over ≡ asWord 32 (λ i. if ltb (need - 1) (getD counts i 0) then 1 else 0) ⌝ }
@@ -154,8 +156,8 @@ pub(crate) fn places_of(need: u32, counts: [u32; 32]) -> Places
 // A place for each signal that a word can have.
 const PLACES: usize = 32;
 
-// A one at each place, and nowhere else. The table is read in loops that take several signals at once: a shift by the place
-// would be another one for each of them. A run makes it once.
+// A one at each place, and nowhere else. The loops that read the table take several signals at once, which a shift by the
+// place would keep the compiler from. A run makes it once.
 pub(crate) fn ones() -> [u32; 32]
     ensures { λ r. ⌜ r ≡ asList 32 (λ i. 2 ^ i) ⌝ }
 {

@@ -29,26 +29,27 @@ pub(crate) fn write_steps(
     let mut agreed = start.agreed;
     let mut counts = start.counts;
     let ones = signals::ones();
-    let mut before = 0u32;
+    // The signals that disagreed at the sample before: where none did, every count is zero.
+    let mut disagreed = 0u32;
     let mut i = 0;
     while i < a.len() {
         let x = a[i];
         let y = b[i];
         let disagreeing = signals::disagreement(x, y);
+        let waiting = disagreed != 0;
         let voted = signals::step_sample(
             n as usize,
             need,
             agreed,
-            before != 0,
+            waiting,
             &ones,
             &mut counts,
-            disagreeing,
             x,
+            disagreeing,
         );
         let taken = crate::decide(confirm, voted);
         let answer = taken.answer;
-        // Where no signal disagrees every count is zero now.
-        before = disagreeing;
+        disagreed = disagreeing;
         agreed = voted.word;
         confirm = taken.confirm;
         // The word that is shown is the output that stays, alarm or not.

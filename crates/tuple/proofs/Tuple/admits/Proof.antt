@@ -13,12 +13,12 @@ use Rattle.rules.proofs.Width.{outside-or}
 use Rattle.confirm.specs.declared.Confirm.{Confirm}
 use Rattle.tuple.specs.declared.Tuple.{Tuple}
 use Rattle.tuple.specs.Tuple.{width, voteNeed, miscounted, badState, rowsOf}
-use Rattle.tuple.proofs.TwoWords.{over, by-two-words}
+use Rattle.tuple.proofs.TwoWords.{beyond, by-two-words}
 use Rattle.tuple.proofs.Tuple.admits.Statement.{statement}
 use Rattle.tuple.proofs.Tuple.admits.Tie as tie
 
--- the reasons for row 7 in the order of the definition: p the places above N-1, l the count, c the places that count, g, x and y the
--- agreed word, the input and the output
+-- the reasons for row 7 in the order of the definition: p the places that count above N-1, l the count, c the places that count, g, x
+-- and y the agreed word, the input and the output
 in-order : (p l c g x y : Bool) → (p || l) || (c || (g || (x || y))) ≡ ((p || c) || g) || ((l || x) || y)
 in-order true l c g x y = refl
 in-order false l true g x y = or-true l
@@ -30,10 +30,10 @@ module _ (s : Tuple) (a b : ℕ) where
   f = s .confirm
 
   abbrev counting : ℕ
-  counting = asWord 32 (over 0 (s .counts))
+  counting = asWord 32 (beyond 0 (s .counts))
 
   abbrev none-above : Bool
-  none-above = eqb (asWord 32 (over (voteNeed s - 1) (s .counts))) 0
+  none-above = eqb (asWord 32 (beyond (voteNeed s - 1) (s .counts))) 0
 
   abbrev stored : ℕ
   stored = bitOr counting (bitOr (s .agreed) (bitOr (f .input) (f .output)))
@@ -57,7 +57,7 @@ returns c =
     let s = x .self in
     let f = s .confirm in
     let places = looked .places-of .ensures in
-    let above-told = places .1 ∙ ap (λ (need : ℕ). asWord 32 (over (need - 1) (s .counts))) (looked .before .vote-need .ensures) in
+    let above-told = places .1 ∙ ap (λ (need : ℕ). asWord 32 (beyond (need - 1) (s .counts))) (looked .before .vote-need .ensures) in
     c .admits .ensures
     ∙ ap₂ (λ (k : Bool) (w : ℕ). admits k (f .n) (bitOr (bitOr (x .a) (x .b)) (bitOr w (bitOr (s .agreed) (bitOr (f .input) (f .output))))))
     (ap₂ (λ (w : ℕ) (k : Bool). eqb w 0 && k) above-told (c .before .counted .ensures)) (places .0)

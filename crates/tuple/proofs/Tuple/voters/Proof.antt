@@ -19,16 +19,16 @@ step-voters-requires c κs = search needs
 
 returns : tie.Need-returns
 returns c =
-    let asked = c .before .before in
-    let voting = asked .before .before in
-    let x = voting .before .args in
+    let voting = c .before .before .before in
+    let asked = voting .before in
+    let x = asked .before .args in
     let s = x .self in
-    let none = voting .before .pre in
+    let none = asked .before .pre in
     let n = width s in
     let inside = or-neither (outside n (x .a)) (outside n (x .b)) (none-given s (x .a) (x .b) .0 none .sample-in) in
     let long = step-voters-requires (c .before) (c .step-voters .lifetimes) in
     c .step-voters .ensures
-    ∙ ap₂ (λ (need d : ℕ). votersBy 32 need (s .agreed) (s .counts) d (x .a)) (voting .vote-need .ensures) (asked .disagreement .ensures n (inside .0) (inside .1))
+    ∙ ap₂ (λ (need d : ℕ). votersBy 32 need (s .agreed) (s .counts) (x .a) d) (voting .vote-need .ensures) (asked .disagreement .ensures n (inside .0) (inside .1))
     ∙ all-places n (voteNeed s) (s .agreed) (s .counts) (x .a) (wide s (x .a) (x .b) none) long (above-zero n s (sound s (x .a) (x .b) none)) (inside .0)
     (disagreement n (x .a) (x .b)) (disagreement-inside n (x .a) (x .b))
     ∙ look n (voteNeed s) (s .agreed) (s .counts) (x .a) (x .b)

@@ -4,4 +4,4 @@ use Rattle.tuple.proofs.signals.disagreement.Statement.{statement}
 use Rattle.tuple.proofs.signals.disagreement.Tie as tie
 
 pub disagreement-spec : {M : Type 1} → statement M
-disagreement-spec = tie.close (tie.spec (λ c n p q. by-xor n (c .args .a) (c .args .b) p q))
+disagreement-spec = tie.close (tie.spec (λ c n. by-xor n (c .args .a) (c .args .b)))

@@ -4,10 +4,12 @@ use mathlib.Core.List.{List}
 use Prim.Native.Nat.{ℕ, _-_, _≤_, _^_}
 use native.Mathlib.Omega.{arith}
 use lib.Bits.{bitOr}
+use lib.Dec.{ltb}
+use lib.ListN.{getD}
 use Rattle.rules.specs.Signals.{asWord, asList}
 use Rattle.rules.proofs.Signals.{word-none}
-use Rattle.tuple.proofs.Ones.{one-of, in-front}
-use Rattle.tuple.proofs.TwoWords.{over, over-small}
+use Rattle.tuple.proofs.Ones.{one-of, one-placed, in-front}
+use Rattle.tuple.proofs.TwoWords.{beyond, beyond-small}
 use Rattle.tuple.proofs.signals.places_of.Statement.{statement}
 use Rattle.tuple.proofs.signals.places_of.Tie as tie
 
@@ -15,8 +17,8 @@ record Going (need : ℕ) (counts ones : List ℕ) (last counting above i : ℕ)
   within : i ≤ 32
   limit : last ≡ need - 1
   table : ones ≡ asList 32 (λ k. 2 ^ k)
-  counting-told : counting ≡ asWord i (over 0 counts)
-  above-told : above ≡ asWord i (over (need - 1) counts)
+  counting-told : counting ≡ asWord i (beyond 0 counts)
+  above-told : above ≡ asWord i (beyond (need - 1) counts)
 
 abbrev Inv-loop : tie.InvT-loop
 Inv-loop need counts ones last counting₀ over₀ i₀ counting over i = Going need counts ones last counting over i
@@ -34,13 +36,13 @@ loop-again c =
     let inv = l .inv in
     let counts = inside .before .before .before .before .args .t2 in
     let one = one-of (inv .table) (l .i) (omega arith) in
-    let more = c .one-if2 .ensures (l .i) one in
+    let late = one-placed (ltb _ (getD counts (l .i) 0)) (l .i) one (c .one-if2 .ensures) in
     record {
       within = omega arith;
       limit = inv .limit;
       table = inv .table;
-      counting-told = ap₂ bitOr (inv .counting-told) (c .before .one-if .ensures (l .i) one) ∙ in-front (over 0 counts) (over-small 0 counts) (l .i);
-      above-told = ap₂ bitOr (inv .above-told) (rw (inv .limit) at more) ∙ in-front (over _ counts) (over-small _ counts) (l .i);
+      counting-told = ap₂ bitOr (inv .counting-told) (one-placed (ltb 0 (getD counts (l .i) 0)) (l .i) one (c .before .one-if .ensures)) ∙ in-front (beyond 0 counts) (beyond-small 0 counts) (l .i);
+      above-told = ap₂ bitOr (inv .above-told) (rw (inv .limit) at late) ∙ in-front (beyond _ counts) (beyond-small _ counts) (l .i);
     }
 
 returns : tie.Need-returns Inv-loop μ-loop

@@ -10,7 +10,7 @@ use Rattle.rules.specs.Bits.{bit}
 use Rattle.rules.specs.Signals.{asWord, asList}
 use Rattle.rules.proofs.Signals.{bit-small, word-none, places-none, places-more, place-above}
 use Rattle.tuple.specs.Disagreement.{countBy, alarmBy}
-use Rattle.tuple.proofs.Ones.{common, one-of, in-front, count-placed, alarm-placed, by-small}
+use Rattle.tuple.proofs.Ones.{common, one-of, in-front, count-placed, alarm-placed, alarm-by-small}
 use Rattle.tuple.proofs.signals.step_counts.Statement.{statement}
 use Rattle.tuple.proofs.signals.step_counts.Tie as tie
 
@@ -23,10 +23,10 @@ record Going (n need d : ℕ) (ones came counts : List ℕ) (mask i : ℕ) : Typ
   counted : counts ≡ asList i (λ k. countBy need (getD came k 0) (bit k d)) ++ drop i came
 
 abbrev Inv-loop : tie.InvT-loop
-Inv-loop n need disagreeing ones counts₀ mask₀ i₀ counts mask i = Going n need disagreeing ones counts₀ counts mask i
+Inv-loop n need ones counts₀ disagreeing mask₀ i₀ counts mask i = Going n need disagreeing ones counts₀ counts mask i
 
 abbrev μ-loop : tie.MeasureT-loop
-μ-loop n need disagreeing ones counts₀ mask₀ i₀ counts mask i = n - i
+μ-loop n need ones counts₀ disagreeing mask₀ i₀ counts mask i = n - i
 
 loop-holds : tie.Need-loop-holds Inv-loop μ-loop
 loop-holds c =
@@ -70,7 +70,7 @@ loop-again c =
       wide = inv .wide;
       long = inv .long;
       table = inv .table;
-      alarmed = ap₂ bitOr (inv .alarmed) (alarm-told c) ∙ in-front (λ k. alarmBy (need c) (getD (came c) k 0) (bit k (d c))) (λ k. by-small (need c) (getD (came c) k 0) (bit-small k (d c))) (i c);
+      alarmed = ap₂ bitOr (inv .alarmed) (alarm-told c) ∙ in-front (λ k. alarmBy (need c) (getD (came c) k 0) (bit k (d c))) (λ k. alarm-by-small (need c) (getD (came c) k 0) (bit-small k (d c))) (i c);
       counted = ap₂ (λ (xs : List ℕ) (k : ℕ). set xs (i c) k) (inv .counted) (count-told c) ∙ places-more (λ k. countBy (need c) (getD (came c) k 0) (bit k (d c))) (came c) (i c) (omega (arith, inv .wide, inv .long));
     }
 

@@ -12,11 +12,11 @@ use Rattle.tuple.proofs.signals.step_sample.Tie as tie
 
 -- no signal disagrees
 all-agree : (c : tie.Then1) → let s = c .before .args in
-    together (record { word = s .a; mask = 0 }) (replicate 32 0) ≡ votersBy (s .n) (s .need) (s .agreed) (s .counts .now) (s .disagreeing) (s .a)
+    together (record { word = s .a; mask = 0 }) (replicate 32 0) ≡ votersBy (s .n) (s .need) (s .agreed) (s .counts .now) (s .a) (s .disagreeing)
 all-agree c =
     let p = c .before .pre in
     let s = c .before .args in
-    rw (c .if1 .taken) (agreeing (s .n) (s .need) (s .agreed) (s .counts .now) (s .a) (p .0 .0) (p .0 .1) (p .1 .1 .above) (p .1 .0 .1))
+    rw (c .if1 .taken) (agreeing (s .n) (s .need) (s .agreed) (s .counts .now) (s .a) (p .0 .0) (p .0 .1) (p .1 .1 .above) (p .1 .0 .0))
 
 returns-2 : tie.Need-returns-2
 returns-2 c =

@@ -12,7 +12,7 @@ step-sample-requires c κs =
     let made = c .before .before in
     let s = made .before in (
       (omega arith, s .pre, made .ones .ensures),
-      ((lt-inside 32 (s .args .disagreeing) (omega arith), lt-inside 32 (s .args .a) (omega arith)), record { above = λ k l m. absurd (omega (arith, l, m)); rest = λ e. absurd (false≢true (sym e)) }),
+      ((lt-inside 32 (s .args .a) (omega arith), lt-inside 32 (s .args .disagreeing) (omega arith)), record { above = λ k l m. absurd (omega (arith, l, m)); rest = λ e. absurd (false≢true (sym e)) }),
     )
 
 pub step-voters-spec : {M : Type 1} → statement M

@@ -21,7 +21,7 @@ use Rattle.tuple.proofs.Sound.{Sound}
 use Rattle.tuple.proofs.steps.write_steps.Statement.{statement}
 use Rattle.tuple.proofs.steps.write_steps.Tie as tie
 
-record Going (n : ℕ) (start : Tuple) (a b ones words masks marks : List ℕ) (confirm : Confirm) (agreed : ℕ) (counts : List ℕ) (before i : ℕ) : Type 0 where
+record Going (n : ℕ) (start : Tuple) (a b ones words masks marks : List ℕ) (confirm : Confirm) (agreed : ℕ) (counts : List ℕ) (disagreed i : ℕ) : Type 0 where
   within : i ≤ length a
   few : length a ≤ 2048
   second-long : length a ≡ length b
@@ -29,17 +29,17 @@ record Going (n : ℕ) (start : Tuple) (a b ones words masks marks : List ℕ) (
   table : ones ≡ asList 32 (λ k. 2 ^ k)
   sound : Sound n (changed start confirm agreed counts)
   votes : voteNeed (changed start confirm agreed counts) ≡ voteNeed start
-  rest : before ≡ 0 → counts ≡ replicate 32 0
+  rest : disagreed ≡ 0 → counts ≡ replicate 32 0
   in-words : FilledPair stepped leaves shownWord start a b words i (changed start confirm agreed counts)
   in-masks : FilledPair stepped leaves shownMask start a b masks i (changed start confirm agreed counts)
   in-marks : FilledPair stepped leaves shownMark start a b marks i (changed start confirm agreed counts)
 
 abbrev Inv-loop : tie.InvT-loop
-Inv-loop n need word a b words₀ masks₀ marks₀ confirm₀ agreed₀ counts₀ ones before₀ i₀ words masks marks confirm agreed counts before i =
-    Going n (fresh n need word) a b ones words masks marks confirm agreed counts before i
+Inv-loop n need word a b words₀ masks₀ marks₀ confirm₀ agreed₀ counts₀ ones disagreed₀ i₀ words masks marks confirm agreed counts disagreed i =
+    Going n (fresh n need word) a b ones words masks marks confirm agreed counts disagreed i
 
 abbrev μ-loop : tie.MeasureT-loop
-μ-loop n need word a b words₀ masks₀ marks₀ confirm₀ agreed₀ counts₀ ones before₀ i₀ words masks marks confirm agreed counts before i =
+μ-loop n need word a b words₀ masks₀ marks₀ confirm₀ agreed₀ counts₀ ones disagreed₀ i₀ words masks marks confirm agreed counts disagreed i =
     length a - i
 
 -- what is looked at from further on: the start, and within the loop its sample
@@ -80,9 +80,9 @@ loop-holds c =
     })
 
 -- the signals that disagree, as the definition has them
-disagreed : (c : tie.After-disagreement Inv-loop μ-loop) → let x = start-of (made-of (sample-of c)) .args in let l = sample-of c .before .loop in
+found-so : (c : tie.After-disagreement Inv-loop μ-loop) → let x = start-of (made-of (sample-of c)) .args in let l = sample-of c .before .loop in
     c .disagreement .result ≡ disagreement (x .n) (getD (x .a .now) (l .i) 0) (getD (x .b .now) (l .i) 0)
-disagreed c =
+found-so c =
     let in-loop = sample-of c in
     let inside = accepted (made-of in-loop) .inside (in-loop .before .loop .i) (in-loop .loop-test .taken) in
     c .disagreement .ensures (start-of (made-of in-loop) .args .n) (inside .0) (inside .1)
@@ -95,7 +95,7 @@ step-sample-requires c κs =
     let s = changed (started (made-of in-loop)) (l .confirm) (l .agreed) (l .counts) in
     let inside = accepted (made-of in-loop) .inside (l .i) (in-loop .loop-test .taken) in (
       (wide _ _ s (inv .sound) (inv .votes), inv .counts-long, inv .table),
-      ((rw (disagreed (c .before .before)) (disagreement-inside _ _ _), inside .0), rests _ _ s (inv .sound) (inv .votes) _ (λ q. inv .rest (eqb-true _ _ (not-false _ q)))),
+      ((inside .0, rw (found-so (c .before .before)) (disagreement-inside _ _ _)), rests _ _ s (inv .sound) (inv .votes) _ (λ q. inv .rest (eqb-true _ _ (not-false _ q)))),
     )
 
 loop-again : tie.Need-loop-again Inv-loop μ-loop
@@ -108,7 +108,7 @@ loop-again c =
     let inv = l .inv in
     let more = in-loop .loop-test .taken in
     let x = start-of (made-of in-loop) .args in
-    let looked = voted .step-sample .ensures ∙ ap (λ (d : ℕ). votersBy (x .n) (x .need) (l .agreed) (l .counts) d (getD (x .a .now) (l .i) 0)) (disagreed found)
+    let looked = voted .step-sample .ensures ∙ ap (λ (d : ℕ). votersBy (x .n) (x .need) (l .agreed) (l .counts) (getD (x .a .now) (l .i) 0) d) (found-so found)
     ∙ look (x .n) (x .need) (l .agreed) (l .counts) (getD (x .a .now) (l .i) 0) (getD (x .b .now) (l .i) 0) in
     let t = taken _ _ (changed (started (made-of in-loop)) (l .confirm) (l .agreed) (l .counts)) (inv .sound) (inv .votes) (inv .counts-long) _ _
     (voted .step-sample .result) _ looked (decided .result) (decided .ensures) in
@@ -121,7 +121,7 @@ loop-again c =
       table = inv .table;
       sound = t .sound-left;
       votes = t .votes-left;
-      rest = λ q. t .all-rest (inside .0) (sym (disagreed found) ∙ q);
+      rest = λ q. t .all-rest (inside .0) (sym (found-so found) ∙ q);
       in-words = turn-pair stepped leaves shownWord _ _ _ (inv .second-long) _ _ _ _ _ (t .whole) (t .word-shown) more (inv .in-words);
       in-masks = turn-pair stepped leaves shownMask _ _ _ (inv .second-long) _ _ _ _ _ (t .whole) (t .mask-shown) more (inv .in-masks);
       in-marks = turn-pair stepped leaves shownMark _ _ _ (inv .second-long) _ _ _ _ _ (t .whole) (c .mark .ensures) more (inv .in-marks);
