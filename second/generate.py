@@ -8,6 +8,7 @@ import groups_recordings
 import groups_runs
 import groups_steps
 import groups_tuple
+import groups_words
 from chance import numbers
 from lines import line, listing_line, read_line
 
@@ -85,7 +86,9 @@ def tuple_room():
     room += cases(groups_tuple.any_states(chance))
     room += cases(groups_steps.edges_of_width('tuple', 2))
     # Runs.
-    return room + cases(groups_runs.runs('tuple', chance))
+    room += cases(groups_runs.runs('tuple', chance))
+    # T-03, the disagreement as one word: steps and runs of every width.
+    return room + cases(groups_words.words(chance))
 
 
 def reserve_room():
