@@ -198,7 +198,7 @@ int main(int argc, char **argv)
     return 0;
   }
   if (argc == 5 && strcmp(argv[1], "--call") == 0 && strtoul(argv[2], NULL, 10) < sizeof rows / sizeof *rows) {
-    const struct side *side = strcmp(argv[3], "plain") == 0 ? &plain_side : &library_side;
+    const struct side *side = strcmp(argv[3], "library") == 0 ? &library_side : &plain_side;
     only_call(&rows[strtoul(argv[2], NULL, 10)], side, strtoul(argv[4], NULL, 10));
     return 0;
   }
