@@ -50,7 +50,7 @@ module _ (k a b : ℕ) where
   pub xor-exactly : (bit k (bitXor a b) ≡ 1) ↔ (bit k a ≡ bit k b → ⊥)
   xor-exactly = rw xor-bit (one-told (bit k a) (bit k b) (bit-small k a) (bit-small k b))
 
--- what is left of all ones: above place k the quotient's own NOT, below it the remainder's
+-- NOT of a word of w bits is what is left of all ones: from place k on the NOT of the quotient, below it that of the remainder
 pub not-bit : (w k a : ℕ) → k < w → a < 2 ^ w → bit k ((2 ^ w - 1) - a) ≡ 1 - bit k a
 not-bit w k a l h =
     let p = 2 ^ k in

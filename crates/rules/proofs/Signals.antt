@@ -37,7 +37,7 @@ module _ (f : ℕ → ℕ) where
   word-same g zero h = refl
   word-same g (suc n) h = rw (word-same g n (λ i l. h i (omega (arith, l))), h n (omega arith))
 
-  -- nothing put at n and above is nothing more
+  -- where nothing is put at n and above, it is the word of n signals
   pub word-ends : (n m : ℕ) → n ≤ m → ((i : ℕ) → n ≤ i → f i ≡ 0) → asWord m f ≡ asWord n f
   unfolding asWord
   word-ends n zero l h = let e : n ≡ 0 = omega (arith, l) in rw e

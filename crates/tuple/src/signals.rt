@@ -107,8 +107,8 @@ pub(crate) fn step_sample(
     Voted { word, mask }
 }
 
-// The sample of a single step looks at all places: it takes as long for each n, and who calls knows that the others agree and
-// are zero. Nothing is known of the sample before, so any voter may wait.
+// The sample of a single step looks at all places, so that it takes as long for each n: its caller knows that those at n and
+// above agree and are zero. Of the sample before it knows nothing, so any voter may wait.
 pub(crate) fn step_voters(
     need: u32,
     agreed: u32,
