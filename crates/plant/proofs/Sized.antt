@@ -1,12 +1,10 @@
 -- With the numbers of `Sizing::of` the premise N·Tm > D holds, and the bounds are the ones that it returned.
-use mathlib.Core.Path.{_≡_, refl, sym, ap, _∙_}
+use mathlib.Core.Path.{_≡_, sym, ap, _∙_}
 use Prim.Native.Nat.{ℕ}
 use lib.ListN.{getD}
-use Rattle.rules.specs.Table.{first}
-use Rattle.rules.proofs.Tables.{own-number}
 use Rattle.sizing.specs.declared.Sizing.{Sizing}
-use Rattle.sizing.specs.Sizing.{countOf, sizeRows, notSized, sized, sizingOf}
-use Rattle.sizing.proofs.Counts.{enough, ranges}
+use Rattle.sizing.specs.Sizing.{countOf, sized, sizingOf}
+use Rattle.sizing.proofs.Taken.{its-numbers, serves}
 use Rattle.sizing.proofs.Sizing.of.Reads as of
 use Rattle.plant.specs.Plant.{Watch, There, ShownBy, outputs}
 use Rattle.plant.specs.Premises.{Premise, AllBut}
@@ -14,21 +12,12 @@ use Rattle.plant.specs.Calls.{Means, SizedBy, Bounds}
 use Rattle.plant.proofs.Premises.{put-back}
 use Rattle.plant.proofs.Shown.{truly-shown}
 
-module _ (n tm tM d : ℕ) (taken : sizingOf n tm tM d .refusal ≡ 0) where
-  none-refused : first (sizeRows n tm tM d) ≡ 0
-  unfolding sizingOf
-  none-refused = sym (own-number (λ (z : Sizing). z .refusal) (first (sizeRows n tm tM d)) notSized (sized n (countOf tm d) tM d) (λ k. refl) refl) ∙ taken
-
-  its-numbers : sizingOf n tm tM d ≡ sized n (countOf tm d) tM d
-  unfolding sizingOf
-  its-numbers = rw none-refused
-
 -- what the definition gives is what the watch needs
 module _ (w : Watch) (z : Sizing) (given : z ≡ sizingOf (w .n) (w .tm) (w .tM) (w .d)) (taken : z .refusal ≡ 0) (its-count : z .need ≡ w .need) where
   not-refused : sizingOf (w .n) (w .tm) (w .tM) (w .d) .refusal ≡ 0
   not-refused = rw (← given) taken
 
-  is : z ≡ sized (w .n) (countOf (w .tm) (w .d)) (w .tM) (w .d)
+  is : z ≡ sized (w .n) (w .tm) (w .tM) (w .d)
   is = given ∙ its-numbers (w .n) (w .tm) (w .tM) (w .d) not-refused
 
   need-is : w .need ≡ countOf (w .tm) (w .d)
@@ -36,7 +25,7 @@ module _ (w : Watch) (z : Sizing) (given : z ≡ sizingOf (w .n) (w .tm) (w .tM)
 
   as-needed : Bounds w z
   as-needed = record {
-    enough = rw need-is (enough (w .tm) (w .d) (ranges (w .n) (w .tm) (w .tM) (w .d) (none-refused (w .n) (w .tm) (w .tM) (w .d) not-refused) .gap));
+    enough = rw (← its-count, given) (serves (w .n) (w .tm) (w .tM) (w .d) not-refused .for-confirmation);
     age-is = rw need-is (sym (ap (λ (z : Sizing). z .age) is));
     quiet-is = rw need-is (sym (ap (λ (z : Sizing). z .quiet) is));
   }

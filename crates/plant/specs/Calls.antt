@@ -16,7 +16,7 @@ pub record RunOn (w : Watch) (n need word : ℕ) (samples : List ℕ) : Type 0 w
   pub same-word : word ≡ w .initial
   pub same-samples : samples ≡ w .samples
 
--- `Sizing::of` of the watch's n, Tm, TM and D, not refused, whose count is the watch's N
+-- `Sizing::of` of the watch's n, Tm, TM and D, not refused, whose count for confirmation is the watch's N
 pub record SizedBy (w : Watch) (n tm tM d : ℕ) (z : Sizing) : Type 0 where
   pub same-width : n ≡ w .n
   pub same-least : tm ≡ w .tm

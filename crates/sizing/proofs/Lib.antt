@@ -1,3 +1,4 @@
 pub mod Counts
 pub mod Exactly
+pub mod Taken
 pub mod Unique

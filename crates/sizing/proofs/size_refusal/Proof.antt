@@ -11,4 +11,4 @@ unfolding numbered through
 returns c = by-rows _ refl (cc)
 
 pub size-refusal-spec : {M : Type 1} → statement M
-size-refusal-spec = tie.close (tie.spec (λ _ _. tt) (λ _ _. tt) (λ _ _. tt) (λ _ _. tt) (λ _ _. tt) (λ c. search needs) (λ _ _. tt) returns)
+size-refusal-spec = tie.close (tie.spec (λ _ _. tt) (λ c. search needs) (λ _ _. tt) (λ _ _. tt) (λ _ _. tt) (λ _ _. tt) (λ _ _. tt) (λ _ _. tt) returns)

@@ -19,7 +19,10 @@ returns c = refuses notSized _ (c .before .size-refusal .ensures) (c .if1 .taken
 
 returns-2 : tie.Need-returns-2
 unfolding sizingOf
-returns-2 c = rw (c .count-of .ensures, c .before .if1 .left) (works notSized _ (c .before .before .size-refusal .ensures) (c .before .if1 .left))
+returns-2 c =
+    let counted = c .before in
+    rw (c .votes-of .ensures, counted .count-of .ensures, counted .before .if1 .left)
+    (works notSized _ (counted .before .before .size-refusal .ensures) (counted .before .if1 .left))
 
 pub of-spec : {M : Type 1} → statement M
 of-spec =
@@ -28,11 +31,13 @@ of-spec =
     (λ _ _. tt)
     returns
     (λ _ _. tt)
-    (λ c. omega (arith, fits c, known c, c .count-of .ensures))
-    (λ c. omega (arith, fits c, known c, c .count-of .ensures))
-    (λ c. omega (arith, fits c, known c, c .count-of .ensures))
-    (λ c. omega (arith, fits c, known c, c .count-of .ensures))
-    (λ c. omega (arith, fits c, known c, c .count-of .ensures))
-    (λ c. omega (arith, fits c, known c, c .count-of .ensures))
-    (λ c. omega (arith, fits c, known c, c .count-of .ensures))
+    (λ _ _. tt)
+    (λ c. omega (arith, fits (c .before), known (c .before), c .before .count-of .ensures))
+    (λ c. omega (arith, fits (c .before), known (c .before), c .before .count-of .ensures))
+    (λ c. omega (arith, fits (c .before), known (c .before), c .before .count-of .ensures))
+    (λ c. omega (arith, fits (c .before), known (c .before), c .before .count-of .ensures))
+    (λ c. omega (arith, fits (c .before), known (c .before), c .before .count-of .ensures))
+    (λ c. omega (arith, fits (c .before), known (c .before), c .before .count-of .ensures))
+    (λ c. omega (arith, fits (c .before), known (c .before), c .before .count-of .ensures))
+    (λ c. omega (arith, known (c .before), c .votes-of .ensures))
     returns-2)
