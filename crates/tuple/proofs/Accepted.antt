@@ -7,7 +7,7 @@ use Prim.Native.Nat.{ℕ, _≤_, _<_}
 use native.Mathlib.Omega.{arith}
 use lib.ListN.{length, getD}
 use borrow.Author.Tests.{ltb-false}
-use Rattle.rules.specs.Limits.{badCount, tooLong, outside}
+use Rattle.rules.specs.Limits.{tooLong, outside}
 use Rattle.rules.proofs.Ranges.{same}
 use Rattle.rules.proofs.Readings.{Runs, run-makes}
 use Rattle.rules.proofs.Tables.{or-neither, or-each}
@@ -19,7 +19,7 @@ use Rattle.trace.proofs.Runs.{answer-done}
 use Rattle.trace.proofs.Samples.{nowhere}
 use Rattle.tuple.specs.declared.Tuple.{Tuple}
 use Rattle.tuple.specs.Run.{unequal, answerOf}
-use Rattle.tuple.specs.Tuple.{fresh}
+use Rattle.tuple.specs.Tuple.{badCounts, fresh}
 use Rattle.tuple.proofs.Sound.{Sound, fresh-sound}
 
 pub record Accepted (n : ℕ) (start : Tuple) (a b words masks marks : List ℕ) : Type 0 where
@@ -31,11 +31,11 @@ pub record Accepted (n : ℕ) (start : Tuple) (a b words masks marks : List ℕ)
   pub start-sound : Sound n start
   pub inside : (i : ℕ) → i < length a → (outside n (getD a i 0) ≡ false) × (outside n (getD b i 0) ≡ false)
 
-module _ (n need word : ℕ) (a b words masks marks : List ℕ) (accepted : answerOf n need word a b words masks marks ≡ Done) where
-  pub fine : Runs (badCount need) n word (longPair a b) (apartPair a b (unequal a words masks marks)) (somewhere (outsidePair n) (zip a b))
+module _ (n votes need word : ℕ) (a b words masks marks : List ℕ) (accepted : answerOf n votes need word a b words masks marks ≡ Done) where
+  pub fine : Runs (badCounts votes need) n word (longPair a b) (apartPair a b (unequal a words masks marks)) (somewhere (outsidePair n) (zip a b))
   fine = answer-done _ _ _ _ _ outsidePair (zip a b) accepted
 
-  pub accept : Accepted n (fresh n need word) a b words masks marks
+  pub accept : Accepted n (fresh n votes need word) a b words masks marks
   accept =
       let all = or-each (same _ _) (or-each (or-each (same _ _) (same _ _)) (same _ _)) (fine .alike) in
       record {
@@ -44,7 +44,7 @@ module _ (n need word : ℕ) (a b words masks marks : List ℕ) (accepted : answ
         words-long = all .1 .0 .0;
         masks-long = all .1 .0 .1;
         marks-long = all .1 .1;
-        start-sound = fresh-sound n need word (run-makes _ _ _ _ _ _ fine);
+        start-sound = fresh-sound n votes need word (run-makes _ _ _ _ _ _ fine);
         inside = λ i l.
             let none = nowhere (outsidePair n) (zip a b) (0, 0) (fine .samples-in) i (omega (arith, zip-length a b (all .0))) in
             or-neither (outside n (getD a i 0)) (outside n (getD b i 0)) (ap (outsidePair n) (sym (zip-at a b i 0 0 l (all .0))) ∙ none);

@@ -22,7 +22,7 @@ use Rattle.tuple.specs.declared.Voters.{Voters}
 use Rattle.tuple.specs.Disagreement.{bitBy, countBy, alarmBy, votersBy}
 use Rattle.tuple.proofs.Small.{zeros}
 
-zero-bit : (i : ℕ) → bit i 0 ≡ 0
+pub zero-bit : (i : ℕ) → bit i 0 ≡ 0
 zero-bit i = rw (div-eq-of-lt (pow-pos i))
 
 -- a signal that agrees

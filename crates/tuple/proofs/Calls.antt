@@ -4,14 +4,14 @@ use mathlib.Core.Path.{_≡_, refl, sym, ap, _∙_}
 use mathlib.Core.List.{List, [], _∷_, _++_}
 use mathlib.Core.Bool.{false, _||_, false≢true}
 use Prim.Native.Nat.{ℕ}
-use Rattle.rules.specs.Limits.{badCount, outside}
+use Rattle.rules.specs.Limits.{outside}
 use Rattle.rules.specs.Table.{Row, _when_, first, answer, numbered, orElse}
 use Rattle.rules.proofs.Readings.{accepted}
 use Rattle.rules.proofs.Tables.{one-more, stays}
 use Rattle.tuple.specs.declared.Tuple.{Tuple}
 use Rattle.tuple.specs.declared.TupleMade.{TupleMade}
 use Rattle.tuple.specs.Answers.{numberOf}
-use Rattle.tuple.specs.Tuple.{width, fresh, votersOf, clauses, made, notMade, madeOf, rowsOf, notTaken, stepOf}
+use Rattle.tuple.specs.Tuple.{width, badCounts, fresh, votersOf, clauses, made, notMade, madeOf, rowsOf, notTaken, stepOf}
 use Rattle.tuple.proofs.Exactly.{none-refused, step-exactly, step-number}
 use Rattle.tuple.proofs.Sound.{voted-inside, fresh-sound}
 use Rattle.tuple.proofs.Stepwise.{made-fresh, step-is-clauses, sound-left}
@@ -35,10 +35,10 @@ module _ (s : Tuple) (a b : ℕ) where
   no-row-missing k = ap (λ (number : ℕ). answer number (notTaken s) (clauses s a b)) (same-number k)
 
 pub fresh-taken :
-    (n need word a b : ℕ) → madeOf n need word .refusal ≡ 0 → outside n a || outside n b ≡ false
-    → numberOf (stepOf (madeOf n need word .state) a b .answer) ≡ 0
+    (n votes need word a b : ℕ) → madeOf n votes need word .refusal ≡ 0 → outside n a || outside n b ≡ false
+    → numberOf (stepOf (madeOf n votes need word .state) a b .answer) ≡ 0
 unfolding madeOf
-fresh-taken n need word a b e inside =
-    let m = accepted (badCount need) n word (λ (m : TupleMade). m .refusal) notMade (made n need word) (λ k. refl) refl e in
-    let g = fresh-sound n need word m in
-    rw (made-fresh n need word m, step-is-clauses n (fresh n need word) a b g inside) (none-refused (fresh n need word) a b)
+fresh-taken n votes need word a b e inside =
+    let m = accepted (badCounts votes need) n word (λ (m : TupleMade). m .refusal) notMade (made n votes need word) (λ k. refl) refl e in
+    let g = fresh-sound n votes need word m in
+    rw (made-fresh n votes need word m, step-is-clauses n (fresh n votes need word) a b g inside) (none-refused (fresh n votes need word) a b)

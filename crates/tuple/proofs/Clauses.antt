@@ -1,4 +1,4 @@
--- What the clauses of a tuple keep, alarm or not: the width, N, what the voters left, and as the output the word that is shown.
+-- What the clauses of a tuple keep, alarm or not: the width, both counts, what the voters left, and as the output the word that is shown.
 use mathlib.Core.Path.{_≡_, refl, _∙_}
 use mathlib.Core.Bool.{Bool, true, false, not}
 use Prim.Native.Nat.{ℕ, _≤_}
@@ -55,8 +55,12 @@ module _ (s : Tuple) (a b : ℕ) where
       either-way (λ (t : TupleStep). shownMark t ≤ 2) (omega arith)
       (rw (confirmed-as (confirm.clauses (s .confirm) (votersOf s a b .word) .answer) .mark) (omega (arith, confirm-marks (s .confirm) (votersOf s a b .word))))
 
-  pub same-sizes : (width (clauses s a b .state) ≡ width s) × (voteNeed (clauses s a b .state) ≡ voteNeed s)
-  same-sizes = either-way (λ (t : TupleStep). (width (t .state) ≡ width s) × (voteNeed (t .state) ≡ voteNeed s)) (refl, refl) (confirm-sizes (s .confirm) (votersOf s a b .word))
+  pub same-sizes :
+      let left = clauses s a b .state in (width left ≡ width s) × (voteNeed left ≡ voteNeed s) × (left .confirm .need ≡ s .confirm .need)
+  same-sizes =
+      let sizes = confirm-sizes (s .confirm) (votersOf s a b .word) in
+      either-way (λ (t : TupleStep). (width (t .state) ≡ width s) × (voteNeed (t .state) ≡ voteNeed s) × (t .state .confirm .need ≡ s .confirm .need))
+      (refl, refl, refl) (sizes .0, refl, sizes .1)
 
   pub voters-left : (clauses s a b .state .agreed ≡ votersOf s a b .word) × (clauses s a b .state .counts ≡ votersOf s a b .counts)
   voters-left = either-way (λ (t : TupleStep). (t .state .agreed ≡ votersOf s a b .word) × (t .state .counts ≡ votersOf s a b .counts)) (refl, refl) (refl, refl)

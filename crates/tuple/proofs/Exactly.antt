@@ -4,7 +4,6 @@ use mathlib.Core.Path.{_≡_, refl, _∙_}
 use mathlib.Core.Logic.{_↔_}
 use mathlib.Core.List.{List, [], zip}
 use Prim.Native.Nat.{ℕ}
-use Rattle.rules.specs.Limits.{badCount}
 use Rattle.rules.specs.Table.{first, Given, numbered}
 use Rattle.rules.specs.Refusals.{makeRows, runRows}
 use Rattle.rules.proofs.Readings.{Makes}
@@ -20,13 +19,13 @@ use Rattle.tuple.specs.declared.Tuple.{Tuple}
 use Rattle.tuple.specs.declared.TupleMade.{TupleMade}
 use Rattle.tuple.specs.declared.TupleStep.{TupleStep}
 use Rattle.tuple.specs.Answers.{numberOf}
-use Rattle.tuple.specs.Tuple.{votersOf, clauses, made, notMade, madeOf, rowsOf, notTaken, stepOf}
+use Rattle.tuple.specs.Tuple.{badCounts, votersOf, clauses, made, notMade, madeOf, rowsOf, notTaken, stepOf}
 use Rattle.tuple.specs.Run.{unequal, answerOf}
 use Rattle.tuple.proofs.Clauses.{either-way, confirmed-as}
 
-pub from-word-exactly : (n need word k : ℕ) → (madeOf n need word .refusal ≡ k) ↔ Given k (makeRows (badCount need) n word)
+pub from-word-exactly : (n votes need word k : ℕ) → (madeOf n votes need word .refusal ≡ k) ↔ Given k (makeRows (badCounts votes need) n word)
 unfolding madeOf numbered
-from-word-exactly n need word = exactly-when (λ (m : TupleMade). m .refusal) (makeRows (badCount need) n word) notMade (made n need word) refl (λ k. refl) refl
+from-word-exactly n votes need word = exactly-when (λ (m : TupleMade). m .refusal) (makeRows (badCounts votes need) n word) notMade (made n votes need word) refl (λ k. refl) refl
 
 -- the clauses refuse nothing
 pub none-refused : (s : Tuple) (a b : ℕ) → numberOf (clauses s a b .answer) ≡ 0
@@ -43,13 +42,13 @@ pub step-number : (s : Tuple) (a b : ℕ) → numberOf (stepOf s a b .answer) �
 unfolding stepOf
 step-number s a b = own-number (λ (t : TupleStep). numberOf (t .answer)) (first (rowsOf s a b)) (notTaken s) (clauses s a b) (λ k. refl) (none-refused s a b)
 
-module _ (n need word : ℕ) (a b words masks marks : List ℕ) where
+module _ (n votes need word : ℕ) (a b words masks marks : List ℕ) where
   abbrev answered : RunAnswer
-  answered = answerOf n need word a b words masks marks
+  answered = answerOf n votes need word a b words masks marks
 
   pub run-exactly :
       (k : ℕ) → (runNumber answered ≡ k)
-      ↔ Given k (runRows (badCount need) n word (longPair a b) (apartPair a b (unequal a words masks marks)) (somewhere (outsidePair n) (zip a b)))
+      ↔ Given k (runRows (badCounts votes need) n word (longPair a b) (apartPair a b (unequal a words masks marks)) (somewhere (outsidePair n) (zip a b)))
   run-exactly = runs.answer-exactly _ _ _ _ _ outsidePair (zip a b)
 
   -- 6 comes with the smallest sample outside the width, and any other number with sample 0
@@ -60,6 +59,6 @@ module _ (n need word : ℕ) (a b words masks marks : List ℕ) where
   run-others = runs.other-zero _ _ _ _ _ outsidePair (zip a b)
 
 -- an empty trace is accepted; as there is no place, nothing is written
-pub empty-taken : (n need word : ℕ) → Makes (badCount need) n word → answerOf n need word [] [] [] [] [] ≡ Done
+pub empty-taken : (n votes need word : ℕ) → Makes (badCounts votes need) n word → answerOf n votes need word [] [] [] [] [] ≡ Done
 unfolding zip
-empty-taken n need word = runs.empty-done outsidePair (badCount need) n word
+empty-taken n votes need word = runs.empty-done outsidePair (badCounts votes need) n word

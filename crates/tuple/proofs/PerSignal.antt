@@ -20,8 +20,8 @@ same-vote :
 same-vote v p q r t = rw (p, q, r, t)
 
 -- and it starts from its bit of the initial word
-pub voter-fresh : (n need word i : ℕ) → voter (fresh n need word) i ≡ vote.fresh 1 need (bit i word)
-voter-fresh n need word i = ap (λ (count : ℕ). voterOf need word count i) (zeros 32 i)
+pub voter-fresh : (n votes need word i : ℕ) → voter (fresh n votes need word) i ≡ vote.fresh 1 votes (bit i word)
+voter-fresh n votes need word i = ap (λ (count : ℕ). voterOf votes word count i) (zeros 32 i)
 
 module _ (s : Tuple) (a b : ℕ) where
   pub per-signal : (i : ℕ) → i < width s → voter (clauses s a b .state) i ≡ vote.clauses (voter s i) (bit i a) (bit i b) false .state

@@ -57,19 +57,19 @@ voted-run s xs =
     at-each stepped leaves (0, 0) (λ (t : TupleStep). t .state .agreed) 0 (λ k (t : Tuple). width t ≡ width s) (λ k w. outside (width s) w ≡ false) xs
     (λ k t l e. let x = getD xs k (0, 0) in (same-sizes t (x .0) (x .1) .0 ∙ e, rw (voters-left t (x .0) (x .1) .0, ← e) (voted-inside t (x .0) (x .1)))) s refl
 
--- from a fresh state, bit i of a mask is a one exactly when signal i disagrees at this and the N−1 samples before it
+-- from a fresh state, bit i of a mask is a one exactly when signal i disagrees at this and the N−1 samples before it, N the voters'
 one-where : (ts : List VoteStep) (k : ℕ) → (getD (map (λ (t : VoteStep). alarmBit (t .answer)) ts) k 0 ≡ 1) ↔ (getD (map voteRun.shownMark ts) k 255 ≡ 2)
 one-where [] k = (λ e. absurd (omega arith), λ e. absurd (omega arith))
 one-where (t ∷ ts) zero = one-at (t .answer)
 one-where (t ∷ ts) (suc k) = one-where ts k
 
 pub mask-exactly :
-    (n need word : ℕ) → 1 ≤ need → (i : ℕ) → i < n → (xs : List (ℕ × ℕ)) (k : ℕ) → k < length xs
-    → (getD (map (λ (t : TupleStep). bit i (shownMask t)) (steps (fresh n need word) xs)) k 0 ≡ 1) ↔ Disagreeing need (map (signalOf i) xs) k
-mask-exactly n need word some i l xs k h =
-    let one = one-where (voteRun.steps (voter (fresh n need word) i) (map (signalOf i) xs)) k in
-    let alarms = alarm-exactly 1 need (bit i word) some (map (signalOf i) xs) k (rw (length-map xs (signalOf i)) h) in
-    rw (mask-run (fresh n need word) i l xs) (λ e. alarms .0 (rw (voter-fresh n need word i) at (one .0 e)), λ d. one .1 (rw (voter-fresh n need word i) (alarms .1 d)))
+    (n votes need word : ℕ) → 1 ≤ votes → (i : ℕ) → i < n → (xs : List (ℕ × ℕ)) (k : ℕ) → k < length xs
+    → (getD (map (λ (t : TupleStep). bit i (shownMask t)) (steps (fresh n votes need word) xs)) k 0 ≡ 1) ↔ Disagreeing votes (map (signalOf i) xs) k
+mask-exactly n votes need word some i l xs k h =
+    let one = one-where (voteRun.steps (voter (fresh n votes need word) i) (map (signalOf i) xs)) k in
+    let alarms = alarm-exactly 1 votes (bit i word) some (map (signalOf i) xs) k (rw (length-map xs (signalOf i)) h) in
+    rw (mask-run (fresh n votes need word) i l xs) (λ e. alarms .0 (rw (voter-fresh n votes need word i) at (one .0 e)), λ d. one .1 (rw (voter-fresh n votes need word i) (alarms .1 d)))
 
 -- a sample without an alarm: the voted word has taken a step of confirmation
 pub quiet : (s : Tuple) (a b : ℕ) → shownMask (clauses s a b) ≡ 0 → clauses s a b ≡ confirms s (votersOf s a b) (confirm.clauses (s .confirm) (votersOf s a b .word))

@@ -13,14 +13,14 @@ use Rattle.rules.specs.Limits.{badCount, outside}
 use Rattle.rules.proofs.Ranges.{width-range}
 use Rattle.rules.proofs.Readings.{Makes}
 use Rattle.rules.proofs.Signals.{bit-small, none-below, not-at, place-below, place-above}
+use Rattle.rules.proofs.Tables.{or-neither}
 use Rattle.rules.proofs.Width.{lt-inside}
-use Rattle.confirm.proofs.Clauses.{same-sizes as confirm-sizes}
 use Rattle.confirm.proofs.Stepwise as confirmSteps
 use Rattle.vote.proofs.Clauses.{same-sizes as vote-sizes}
 use Rattle.vote.proofs.Stepwise as voteSteps
 use Rattle.tuple.specs.declared.Tuple.{Tuple}
 use Rattle.tuple.specs.declared.TupleStep.{TupleStep}
-use Rattle.tuple.specs.Tuple.{width, voteNeed, fresh, voter, signalVote, votersOf, badPlace, badPlaces, badState, clauses}
+use Rattle.tuple.specs.Tuple.{width, voteNeed, badCounts, fresh, voter, signalVote, votersOf, badPlace, badPlaces, badState, clauses}
 use Rattle.tuple.proofs.Clauses.{either-way}
 use Rattle.tuple.proofs.Small.{words-small, zeros}
 
@@ -81,21 +81,22 @@ module _ (n : ℕ) (s : Tuple) (g : Sound n s) where
       (record { confirm-sound = g .confirm-sound; votes-counted = g .votes-counted; places = places-next a b; agreed-in = word-next a b })
       (record {
         confirm-sound = confirmSteps.sound-next n (s .confirm) (votersOf s a b .word) (g .confirm-sound) (word-next a b);
-        votes-counted = rw (confirm-sizes (s .confirm) (votersOf s a b .word) .1) (g .votes-counted);
-        places = rw (confirm-sizes (s .confirm) (votersOf s a b .word) .1) (places-next a b);
+        votes-counted = g .votes-counted;
+        places = places-next a b;
         agreed-in = word-next a b;
       })
 
 -- a fresh state is one
-pub fresh-sound : (n need word : ℕ) → Makes (badCount need) n word → Sound n (fresh n need word)
-fresh-sound n need word m =
+pub fresh-sound : (n votes need word : ℕ) → Makes (badCounts votes need) n word → Sound n (fresh n votes need word)
+fresh-sound n votes need word m =
+    let counted = or-neither (badCount votes) (badCount need) (m .counted) in
     record {
-      confirm-sound = confirmSteps.fresh-sound n need word m;
-      votes-counted = m .counted;
-      places = none-below (λ i. badPlace n need (getD (replicate 32 0) i 0) i) 32 (λ i l. go i (ltb i n));
+      confirm-sound = confirmSteps.fresh-sound n need word (record { counted = counted .1; wide = m .wide; word-in = m .word-in });
+      votes-counted = counted .0;
+      places = none-below (λ i. badPlace n votes (getD (replicate 32 0) i 0) i) 32 (λ i l. go i (ltb i n));
       agreed-in = m .word-in;
     }
   where
-    go : (i : ℕ) (p : Bool) → (if p then ltb (need - 1) (getD (replicate 32 0) i 0) else ltb 0 (getD (replicate 32 0) i 0)) ≡ false
-    go i true = rw (zeros 32 i) (le-ltb (need - 1) 0 (omega arith))
+    go : (i : ℕ) (p : Bool) → (if p then ltb (votes - 1) (getD (replicate 32 0) i 0) else ltb 0 (getD (replicate 32 0) i 0)) ≡ false
+    go i true = rw (zeros 32 i) (le-ltb (votes - 1) 0 (omega arith))
     go i false = rw (zeros 32 i) (le-ltb 0 0 (omega arith))

@@ -33,10 +33,10 @@ mask-unique = fixes (λ a z e p. p)
 pub mark-unique : Fixes (mark.Learnt tt) (λ z e. z) (λ a. markOf (a .0))
 mark-unique = fixes (λ a z e p. p)
 
-pub from-word-unique : Fixes (from-word.Learnt tt) (λ z e. z) (λ a. madeOf (a .0) (a .1 .0) (a .1 .1 .0))
+pub from-word-unique : Fixes (from-word.Learnt tt) (λ z e. z) (λ a. madeOf (a .0) (a .1 .0) (a .1 .1 .0) (a .1 .1 .1 .0))
 from-word-unique = fixes (λ a z e p. p)
 
-pub new-unique : Fixes (new.Learnt tt) (λ z e. z) (λ a. madeOf (a .0) (a .1 .0) (defaultWord (a .0)))
+pub new-unique : Fixes (new.Learnt tt) (λ z e. z) (λ a. madeOf (a .0) (a .1 .0) (a .1 .1 .0) (defaultWord (a .0)))
 new-unique = fixes (λ a z e p. p)
 
 pub step-unique : Fixes (step.Learnt tt) (λ z e. z) (λ a. stepOf (a .0) (a .1 .0) (a .1 .1 .0))
@@ -46,17 +46,17 @@ step-unique = fixes (λ a z e p. p)
 abbrev pub Seen : Type 0
 Seen = RunAnswer × List ℕ × List ℕ × List ℕ
 
-abbrev pub ran : ℕ → ℕ → ℕ → List ℕ → List ℕ → List ℕ → List ℕ → List ℕ → Seen
-ran n need w a b words masks marks =
-    let r = answerOf n need w a b words masks marks in
-    let taken = steps (fresh n need w) (zip a b) in
+abbrev pub ran : ℕ → ℕ → ℕ → ℕ → List ℕ → List ℕ → List ℕ → List ℕ → List ℕ → Seen
+ran n votes need w a b words masks marks =
+    let r = answerOf n votes need w a b words masks marks in
+    let taken = steps (fresh n votes need w) (zip a b) in
     (r, after r words (map shownWord taken), after r masks (map shownMask taken), after r marks (map shownMark taken))
 
 pub run-unique :
     (κs : Lfts 5)
     → Fixes {O = Seen} (run.Learnt κs)
-    (λ z e. let lent = e .1 .1 .1 .1 .1 in (z, now (lent .0), now (lent .1 .0), now (lent .1 .1 .0)))
+    (λ z e. let lent = e .1 .1 .1 .1 .1 .1 in (z, now (lent .0), now (lent .1 .0), now (lent .1 .1 .0)))
     (λ a.
-    let lent = a .1 .1 .1 in
-    ran (a .0) (a .1 .0) (a .1 .1 .0) (now (lent .0)) (now (lent .1 .0)) (now (lent .1 .1 .0)) (now (lent .1 .1 .1 .0)) (now (lent .1 .1 .1 .1 .0)))
+    let lent = a .1 .1 .1 .1 in
+    ran (a .0) (a .1 .0) (a .1 .1 .0) (a .1 .1 .1 .0) (now (lent .0)) (now (lent .1 .0)) (now (lent .1 .1 .0)) (now (lent .1 .1 .1 .0)) (now (lent .1 .1 .1 .1 .0)))
 run-unique κs = fixes (λ a z e p. cc)

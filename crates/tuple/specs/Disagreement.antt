@@ -1,5 +1,5 @@
 -- T-03: the signals that disagree at a sample, as one word, and the voters as they look at it. The voters of `Tuple.antt`
--- are the same (`look`, `proofs/Disagreement.antt`), so this page changes no promise.
+-- are the same (`look`, `proofs/Disagreement.antt`), so this page changes no promise. N is the voters'.
 use Prim.Native.Nat.{ℕ, _+_, _-_}
 use mathlib.Core.List.{List, _++_}
 use lib.Dec.{ltb, eqb}

@@ -1,4 +1,4 @@
--- The tuple vote: document 000, definition 15, as document 01 has it. Signal i of a word is its bit i.
+-- The tuple vote: document 000, definition 15, as document 01 has it, and T-02 of document 02. Signal i of a word is its bit i.
 use Prim.Native.Nat.{ℕ, _-_}
 use mathlib.Core.List.{List, _++_}
 use mathlib.Core.Bool.{Bool, false, not, _||_}
@@ -27,22 +27,25 @@ use Rattle.tuple.specs.declared.TupleMade.{TupleMade}
 use Rattle.tuple.specs.declared.TupleStep.{TupleStep}
 use Rattle.tuple.specs.declared.Voters.{Voters}
 
--- the width, and the voters' N: the confirmation's
+-- the width, and the voters' count: "the tuple vote keeps one for its voters and one for its confirmation"
 abbrev pub width : Tuple → ℕ
 width s = s .confirm .n
 
 abbrev pub voteNeed : Tuple → ℕ
-voteNeed s = s .confirm .need
+voteNeed s = s .votes
 
--- 1, of a state
+-- 1: either count is 0 or above 1,000
+abbrev pub badCounts : ℕ → ℕ → Bool
+badCounts votes need = badCount votes || badCount need
+
 abbrev pub miscounted : Tuple → Bool
-miscounted s = badCount (voteNeed s)
+miscounted s = badCounts (voteNeed s) (s .confirm .need)
 
 -- fresh: a fresh confirmation, and each voter from its bit of the initial word
-abbrev pub fresh : ℕ → ℕ → ℕ → Tuple
-fresh n need word = record { confirm = confirm.fresh n need word; agreed = word; counts = replicate 32 0 }
+abbrev pub fresh : ℕ → ℕ → ℕ → ℕ → Tuple
+fresh n votes need word = record { votes = votes; confirm = confirm.fresh n need word; agreed = word; counts = replicate 32 0 }
 
--- each signal has a plain vote of its own, of width 1, with the same N
+-- each signal has a plain vote of its own, of width 1, with the voters' count
 abbrev pub voterOf : ℕ → ℕ → ℕ → ℕ → Vote
 voterOf need agreed count i = record { n = 1; need = need; word = bit i agreed; count = count }
 
@@ -71,9 +74,9 @@ voters n need agreed counts a b =
 abbrev pub votersOf : Tuple → ℕ → ℕ → Voters
 votersOf s a b = voters (width s) (voteNeed s) (s .agreed) (s .counts) a b
 
--- the state s after a step: the fields that a step changes, here all of them
+-- the state s after a step: the voters' count stays
 abbrev pub changed : Tuple → Confirm → ℕ → List ℕ → Tuple
-changed s confirm agreed counts = record { confirm = confirm; agreed = agreed; counts = counts }
+changed s confirm agreed counts = record { votes = s .votes; confirm = confirm; agreed = agreed; counts = counts }
 
 -- an alarm: the mask with the previous output; confirmation takes no step
 abbrev pub alarm : Tuple → Voters → TupleStep
@@ -88,31 +91,31 @@ confirmedAs (RefusedOne k) = Refused k
 abbrev pub confirms : Tuple → Voters → ConfirmStep → TupleStep
 confirms s v t = record { state = changed s (t .state) (v .word) (v .counts); answer = confirmedAs (t .answer) }
 
--- if any alarms, the alarm; otherwise the voted word takes a step of confirmation, with the same N. All voters step in either case
+-- if any alarms, the alarm; otherwise the voted word takes a step of confirmation, with its own N. All voters step in either case
 abbrev pub decided : Tuple → Voters → TupleStep
 decided s v = if not (eqb (v .mask) 0) then alarm s v else confirms s v (confirm.clauses (s .confirm) (v .word))
 
 unfoldable pub clauses : Tuple → ℕ → ℕ → TupleStep
 clauses s a b = decided s (votersOf s a b)
 
--- a constructor; refused: the fresh state of n 1, N 1 and word zero
-abbrev pub made : ℕ → ℕ → ℕ → TupleMade
-made n need word = record { state = fresh n need word; refusal = 0 }
+-- a constructor; refused: the fresh state of n 1, both counts 1 and word zero
+abbrev pub made : ℕ → ℕ → ℕ → ℕ → TupleMade
+made n votes need word = record { state = fresh n votes need word; refusal = 0 }
 
 abbrev pub notMade : ℕ → TupleMade
-notMade number = record { state = fresh 1 1 0; refusal = number }
+notMade number = record { state = fresh 1 1 1 0; refusal = number }
 
-unfoldable pub madeOf : ℕ → ℕ → ℕ → TupleMade
-madeOf n need word = answer (first (makeRows (badCount need) n word)) notMade (made n need word)
+unfoldable pub madeOf : ℕ → ℕ → ℕ → ℕ → TupleMade
+madeOf n votes need word = answer (first (makeRows (badCounts votes need) n word)) notMade (made n votes need word)
 
--- 7, of the place of signal i: a count above N-1, or, at n and above, a count that is not zero
+-- 7, of the place of signal i: a count above the voters' N-1, or, at n and above, a count that is not zero
 abbrev pub badPlace : ℕ → ℕ → ℕ → ℕ → Bool
 badPlace n need count i = if ltb i n then ltb (need - 1) count else ltb 0 count
 
 abbrev pub badPlaces : ℕ → ℕ → List ℕ → Bool
 badPlaces n need counts = someBelow 32 (λ i. badPlace n need (getD counts i 0) i)
 
--- 7: a place, an agreed bit at n or above, or the confirmation's state
+-- 7: a place, an agreed bit at n or above, or the confirmation's state, whose count goes with its own N
 abbrev pub badState : Tuple → Bool
 badState s = badPlaces (width s) (voteNeed s) (s .counts) || outside (width s) (s .agreed) || confirm.badState (s .confirm)
 

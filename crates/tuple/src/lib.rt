@@ -1,4 +1,5 @@
-// The tuple vote (document 000, definition 15): a plain vote for each signal, and a confirmation of the voted word.
+// The tuple vote (document 000, definition 15; T-02): a plain vote for each signal, and a confirmation of the voted word, each
+// with a count of its own.
 mod signals;
 mod steps;
 
@@ -10,13 +11,14 @@ ghost use lib.Dec.{eqb};
 ghost use Rattle.rules.specs.Limits.{defaultWord};
 ghost use Rattle.rules.specs.Table.{first};
 ghost use Rattle.tuple.specs.Answers.{numberOf, wordOf, maskOf, markOf};
-ghost use Rattle.tuple.specs.Tuple.{voteNeed, miscounted, fresh, votersOf, confirmedAs, decided, madeOf, rowsOf, stepOf};
+ghost use Rattle.tuple.specs.Tuple.{badCounts, miscounted, fresh, votersOf, confirmedAs, decided, madeOf, rowsOf, stepOf};
 ghost use Rattle.tuple.specs.Parts.{Decides};
 ghost use Rattle.tuple.specs.Run.{Ran};
 
-// The state of a tuple vote: the confirmation's state, which has n and N, the agreed signals as one word, and a count for each
-// signal; places at n and above are zero.
+// The state of a tuple vote: the voters' N, the confirmation's state, which has n and its own N, the agreed signals as one word,
+// and a count for each signal; places at n and above are zero.
 pub struct Tuple {
+    pub votes: u32,
     pub confirm: Confirm,
     pub agreed: u32,
     pub counts: [u32; 32],
@@ -55,7 +57,7 @@ struct Voted {
     pub mask: u32,
 }
 
-// The places that count, and those whose count is above N-1, as a word each.
+// The places that count, and those whose count is above the voters' N-1, as a word each.
 struct Places {
     pub counting: u32,
     pub over: u32,
@@ -146,9 +148,16 @@ fn decide(confirm: Confirm, voted: Voted) -> Decided
     Decided { confirm, answer }
 }
 
+// 1: either count is 0 or above 1,000.
+fn bad_counts(votes: u32, need: u32) -> bool
+    ensures { λ r. ⌜ r ≡ badCounts votes need ⌝ }
+{
+    rules::bad_count(votes) | rules::bad_count(need)
+}
+
 impl Tuple {
-    fn fresh(n: u32, need: u32, word: u32) -> Tuple
-        ensures { λ r. ⌜ r ≡ fresh n need word ⌝ }
+    fn fresh(n: u32, votes: u32, need: u32, word: u32) -> Tuple
+        ensures { λ r. ⌜ r ≡ fresh n votes need word ⌝ }
     {
         let confirm = Confirm {
             n,
@@ -159,30 +168,31 @@ impl Tuple {
         };
         let counts = [0u32; 32];
         Tuple {
+            votes,
             confirm,
             agreed: word,
             counts,
         }
     }
 
-    // A fresh state from a width, a count and an initial word.
-    pub fn from_word(n: u32, need: u32, word: u32) -> TupleMade
-        ensures { λ r. ⌜ r ≡ madeOf n need word ⌝ }
+    // A fresh state from a width, the voters' count, the confirmation's and an initial word.
+    pub fn from_word(n: u32, votes: u32, need: u32, word: u32) -> TupleMade
+        ensures { λ r. ⌜ r ≡ madeOf n votes need word ⌝ }
     {
-        let refusal = rules::make_refusal(rules::bad_count(need), n, word);
+        let refusal = rules::make_refusal(bad_counts(votes, need), n, word);
         if refusal != 0 {
-            let state = Tuple::fresh(1, 1, 0);
+            let state = Tuple::fresh(1, 1, 1, 0);
             return TupleMade { state, refusal };
         }
-        let state = Tuple::fresh(n, need, word);
+        let state = Tuple::fresh(n, votes, need, word);
         TupleMade { state, refusal }
     }
 
     // A fresh state from zero.
-    pub fn new(n: u32, need: u32) -> TupleMade
-        ensures { λ r. ⌜ r ≡ madeOf n need (defaultWord n) ⌝ }
+    pub fn new(n: u32, votes: u32, need: u32) -> TupleMade
+        ensures { λ r. ⌜ r ≡ madeOf n votes need (defaultWord n) ⌝ }
     {
-        Tuple::from_word(n, need, rules::default_word(n))
+        Tuple::from_word(n, votes, need, rules::default_word(n))
     }
 
     // All voters have stepped: the alarm or the confirmation.
@@ -198,6 +208,7 @@ impl Tuple {
         let answer = taken.answer;
         let counts = v.counts;
         let state = Tuple {
+            votes: self.votes,
             confirm,
             agreed: v.word,
             counts,
@@ -205,18 +216,11 @@ impl Tuple {
         TupleStep { state, answer }
     }
 
-    // The voters' N: the confirmation's.
-    fn vote_need(self) -> u32
-        ensures { λ r. ⌜ r ≡ voteNeed self ⌝ }
-    {
-        self.confirm.need
-    }
-
     // 1, of the state.
     fn miscounted(self) -> bool
         ensures { λ r. ⌜ r ≡ miscounted self ⌝ }
     {
-        rules::bad_count(self.vote_need())
+        bad_counts(self.votes, self.confirm.need)
     }
 
     // The signals that disagree, as one word, and the voters, which look at it.
@@ -225,9 +229,8 @@ impl Tuple {
         ensures { λ r. ⌜ r ≡ votersOf self a b ⌝ }
     {
         let disagreeing = signals::disagreement(a, b);
-        let need = self.vote_need();
         let mut counts = self.counts;
-        let voted = signals::step_voters(need, self.agreed, &mut counts, a, disagreeing);
+        let voted = signals::step_voters(self.votes, self.agreed, &mut counts, a, disagreeing);
         Voters {
             word: voted.word,
             mask: voted.mask,
@@ -235,16 +238,19 @@ impl Tuple {
         }
     }
 
-    // Whether a step is taken, by one test: its table gives no number. The places that count are one more word: it is inside the
-    // width exactly where none at n or above counts.
+    // Whether a step is taken, by one test: its table gives no number. Rows 1 and 7 ask of the voters' counts and of the
+    // confirmation's, each with its own N. The places that count are one more word: it is inside the width exactly where none at n
+    // or above counts.
     fn admits(self, a: u32, b: u32) -> bool
         ensures { λ r. ⌜ r ≡ eqb (first (rowsOf self a b)) 0 ⌝ }
     {
         let confirm = self.confirm;
         let counts = self.counts;
-        let places = signals::places_of(self.vote_need(), counts);
+        let votes = self.votes;
+        let places = signals::places_of(votes, counts);
         let stored = places.counting | (self.agreed | (confirm.input | confirm.output));
-        let counted = (places.over == 0) & rules::counted(confirm.need, confirm.count);
+        let votes_counted = !(rules::bad_count(votes) | (places.over != 0));
+        let counted = votes_counted & rules::counted(confirm.need, confirm.count);
         rules::admits(counted, confirm.n, (a | b) | stored)
     }
 
@@ -268,6 +274,7 @@ impl Tuple {
 // A run over two lent columns, from a fresh state.
 pub fn run(
     n: u32,
+    votes: u32,
     need: u32,
     word: u32,
     a: &[u32],
@@ -276,15 +283,15 @@ pub fn run(
     masks: &mut [u32],
     marks: &mut [u8],
 ) -> RunAnswer
-    ensures { λ r. ⌜ Ran n need word (now (a .entry)) (now (b .entry)) (now (words .entry)) (now (masks .entry)) (now (marks .entry))
+    ensures { λ r. ⌜ Ran n votes need word (now (a .entry)) (now (b .entry)) (now (words .entry)) (now (masks .entry)) (now (marks .entry))
         r (now (words .exit)) (now (masks .exit)) (now (marks .exit)) ⌝ }
 {
     let len = a.len();
     let unequal = (len != words.len()) | (len != masks.len()) | (len != marks.len());
-    let answer = trace::judge_pair(rules::bad_count(need), n, word, a, b, unequal);
+    let answer = trace::judge_pair(bad_counts(votes, need), n, word, a, b, unequal);
     let RunAnswer::Done = answer else {
         return answer;
     };
-    steps::write_steps(n, need, word, a, b, words, masks, marks);
+    steps::write_steps(n, votes, need, word, a, b, words, masks, marks);
     RunAnswer::Done
 }

@@ -1,5 +1,5 @@
 // A sample of the voters, top to bottom: the signals that disagree, as one word, and what each signal does that looks at it.
-// Below it: what number 7 asks of the counts, and the table of the places.
+// Below it: what number 7 asks of the counts, and the table of the places. N, `need`, is the voters'.
 use crate::Places;
 use crate::Voted;
 ghost use mathlib.Core.Path.{_≡_};

@@ -11,6 +11,7 @@ ghost use Rattle.tuple.specs.Run.{steps, shownWord, shownMask, shownMark
 // in place.
 pub(crate) fn write_steps(
     n: u32,
+    votes: u32,
     need: u32,
     word: u32,
     a: &[u32],
@@ -19,12 +20,12 @@ pub(crate) fn write_steps(
     masks: &mut [u32],
     marks: &mut [u8],
 )
-    requires { ⌜ answerOf n need word (now a) (now b) (now words) (now masks) (now marks) ≡ Done ⌝ }
-    ensures { λ _. ⌜ now (words .exit) ≡ map shownWord (steps (fresh n need word) (zip (now (a .entry)) (now (b .entry)))) ⌝ }
-    ensures { λ _. ⌜ now (masks .exit) ≡ map shownMask (steps (fresh n need word) (zip (now (a .entry)) (now (b .entry)))) ⌝ }
-    ensures { λ _. ⌜ now (marks .exit) ≡ map shownMark (steps (fresh n need word) (zip (now (a .entry)) (now (b .entry)))) ⌝ }
+    requires { ⌜ answerOf n votes need word (now a) (now b) (now words) (now masks) (now marks) ≡ Done ⌝ }
+    ensures { λ _. ⌜ now (words .exit) ≡ map shownWord (steps (fresh n votes need word) (zip (now (a .entry)) (now (b .entry)))) ⌝ }
+    ensures { λ _. ⌜ now (masks .exit) ≡ map shownMask (steps (fresh n votes need word) (zip (now (a .entry)) (now (b .entry)))) ⌝ }
+    ensures { λ _. ⌜ now (marks .exit) ≡ map shownMark (steps (fresh n votes need word) (zip (now (a .entry)) (now (b .entry)))) ⌝ }
 {
-    let start = Tuple::fresh(n, need, word);
+    let start = Tuple::fresh(n, votes, need, word);
     let mut confirm = start.confirm;
     let mut agreed = start.agreed;
     let mut counts = start.counts;
@@ -39,7 +40,7 @@ pub(crate) fn write_steps(
         let waiting = disagreed != 0;
         let voted = signals::step_sample(
             n as usize,
-            need,
+            votes,
             agreed,
             waiting,
             &ones,

@@ -16,11 +16,11 @@ abbrev judged : tie.After-enum-told → tie.After-judge-pair
 judged c = c .before .before
 
 answered : (c : tie.After-judge-pair) → let a = start-of c .args in
-    c .judge-pair .result ≡ answerOf (a .n) (a .need) (a .word) (a .a .now) (a .b .now) (a .words .now) (a .masks .now) (a .marks .now)
+    c .judge-pair .result ≡ answerOf (a .n) (a .votes) (a .need) (a .word) (a .a .now) (a .b .now) (a .words .now) (a .masks .now) (a .marks .now)
 answered c =
     let a = start-of c .args in
     let apart = unequal (a .a .now) (a .words .now) (a .masks .now) (a .marks .now) in
-    c .judge-pair .ensures ∙ ap (λ (m : Bool). pairAnswer m (a .n) (a .word) (a .a .now) (a .b .now) apart) (c .before .bad-count .ensures)
+    c .judge-pair .ensures ∙ ap (λ (m : Bool). pairAnswer m (a .n) (a .word) (a .a .now) (a .b .now) apart) (c .before .bad-counts .ensures)
 
 returns : tie.Need-returns
 returns c =
@@ -29,7 +29,7 @@ returns c =
 
 -- the run is accepted
 accepted : (c : tie.After-enum-told) → let a = start-of (judged c) .args in
-    answerOf (a .n) (a .need) (a .word) (a .a .now) (a .b .now) (a .words .now) (a .masks .now) (a .marks .now) ≡ Done
+    answerOf (a .n) (a .votes) (a .need) (a .word) (a .a .now) (a .b .now) (a .words .now) (a .masks .now) (a .marks .now) ≡ Done
 accepted c = sym (answered (judged c)) ∙ c .enum-told .given .1
 
 returns-2 : tie.Need-returns-2

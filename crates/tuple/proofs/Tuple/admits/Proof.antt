@@ -1,10 +1,11 @@
--- `Tuple::admits` meets its contract: the one test, with the places as one more reason for row 7.
+-- `Tuple::admits` meets its contract: the one test, with the voters' count as one more for row 1 and the places as one more reason
+-- for row 7.
 use mathlib.Core.Path.{_≡_, refl, sym, ap, ap₂, _∙_}
-use mathlib.Core.Bool.{Bool, true, false, not, _&&_, _||_, or-true, or-assoc, Bool·not-not}
+use mathlib.Core.Bool.{Bool, true, false, not, _&&_, _||_, or-true, or-assoc}
 use Prim.Native.Nat.{ℕ, _-_}
 use lib.Bits.{bitOr}
 use lib.Dec.{ltb, eqb}
-use Rattle.rules.specs.Limits.{outside}
+use Rattle.rules.specs.Limits.{badCount, outside}
 use Rattle.rules.specs.Signals.{asWord}
 use Rattle.rules.specs.Table.{first}
 use Rattle.rules.specs.Refusals.{counted, admits}
@@ -32,35 +33,35 @@ module _ (s : Tuple) (a b : ℕ) where
   abbrev counting : ℕ
   counting = asWord 32 (beyond 0 (s .counts))
 
-  abbrev none-above : Bool
-  none-above = eqb (asWord 32 (beyond (voteNeed s - 1) (s .counts))) 0
+  abbrev some-above : Bool
+  some-above = not (eqb (asWord 32 (beyond (voteNeed s - 1) (s .counts))) 0)
 
   abbrev stored : ℕ
   stored = bitOr counting (bitOr (s .agreed) (bitOr (f .input) (f .output)))
 
-  spoilt : let late = ltb (f .need - 1) (f .count) in (not none-above || late) || outside (f .n) stored ≡ badState s
+  spoilt : let late = ltb (f .need - 1) (f .count) in (some-above || late) || outside (f .n) stored ≡ badState s
   spoilt =
       let late = ltb (f .need - 1) (f .count) in
       rw (outside-or (f .n) counting (bitOr (s .agreed) (bitOr (f .input) (f .output))), outside-or (f .n) (s .agreed) (bitOr (f .input) (f .output)), outside-or (f .n) (f .input) (f .output), by-two-words (width s) (voteNeed s) (s .counts))
-      (in-order (not none-above) late (outside (f .n) counting) (outside (f .n) (s .agreed)) (outside (f .n) (f .input)) (outside (f .n) (f .output)))
+      (in-order some-above late (outside (f .n) counting) (outside (f .n) (s .agreed)) (outside (f .n) (f .input)) (outside (f .n) (f .output)))
 
-  tested : admits (none-above && counted (f .need) (f .count)) (f .n) (bitOr (bitOr a b) stored) ≡ eqb (first (rowsOf s a b)) 0
+  -- both counts, each with its own N
+  tested : admits (not (badCount (voteNeed s) || some-above) && counted (f .need) (f .count)) (f .n) (bitOr (bitOr a b) stored) ≡ eqb (first (rowsOf s a b)) 0
   tested =
       let late = ltb (f .need - 1) (f .count) in
-      ap (λ (p : Bool). admits (p && counted (f .need) (f .count)) (f .n) (bitOr (bitOr a b) stored)) (sym (Bool·not-not none-above))
-      ∙ admits-exactly (miscounted s) (not none-above || late) (f .n) (bitOr a b) stored (both-counted false (not none-above) (miscounted s) late) (outside-or (f .n) a b) spoilt
+      admits-exactly (miscounted s) (some-above || late) (f .n) (bitOr a b) stored (both-counted (badCount (voteNeed s)) some-above (badCount (f .need)) late) (outside-or (f .n) a b) spoilt
 
 returns : tie.Need-returns
 returns c =
-    let looked = c .before .before .before .before .before .before in
-    let x = looked .before .before .before .before .args in
+    let asked = c .before .before .before in
+    let looked = asked .before .before .before .before in
+    let x = looked .before .before .before .args in
     let s = x .self in
     let f = s .confirm in
     let places = looked .places-of .ensures in
-    let above-told = places .1 ∙ ap (λ (need : ℕ). asWord 32 (beyond (need - 1) (s .counts))) (looked .before .vote-need .ensures) in
     c .admits .ensures
     ∙ ap₂ (λ (k : Bool) (w : ℕ). admits k (f .n) (bitOr (bitOr (x .a) (x .b)) (bitOr w (bitOr (s .agreed) (bitOr (f .input) (f .output))))))
-    (ap₂ (λ (w : ℕ) (k : Bool). eqb w 0 && k) above-told (c .before .counted .ensures)) (places .0)
+    (ap₂ _&&_ (ap₂ (λ (m : Bool) (w : ℕ). not (m || not (eqb w 0))) (asked .bad-count .ensures) (places .1)) (c .before .counted .ensures)) (places .0)
     ∙ tested s (x .a) (x .b)
 
 pub admits-spec : {M : Type 1} → statement M

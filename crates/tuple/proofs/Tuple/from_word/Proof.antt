@@ -1,16 +1,15 @@
--- `Tuple::from_word` meets its contract: with a refusal the state of n 1, N 1 and word zero, without one the fresh state.
+-- `Tuple::from_word` meets its contract: with a refusal the state of n 1, both counts 1 and word zero, without one the fresh state.
 use mathlib.Core.Path.{_≡_}
-use Rattle.rules.specs.Limits.{badCount}
 use Rattle.rules.specs.Table.{first}
 use Rattle.rules.specs.Refusals.{makeRows}
 use Rattle.rules.proofs.Tables.{refuses, works}
-use Rattle.tuple.specs.Tuple.{notMade, madeOf}
+use Rattle.tuple.specs.Tuple.{badCounts, notMade, madeOf}
 use Rattle.tuple.proofs.Tuple.from_word.Statement.{statement}
 use Rattle.tuple.proofs.Tuple.from_word.Tie as tie
 
 found : (c : tie.After-make-refusal) → let a = c .before .before .args in
-    c .make-refusal .result ≡ first (makeRows (badCount (a .need)) (a .n) (a .word))
-found c = rw (c .make-refusal .ensures, c .before .bad-count .ensures)
+    c .make-refusal .result ≡ first (makeRows (badCounts (a .votes) (a .need)) (a .n) (a .word))
+found c = rw (c .make-refusal .ensures, c .before .bad-counts .ensures)
 
 returns : tie.Need-returns
 unfolding madeOf

@@ -35,11 +35,11 @@ record Going (n : ℕ) (start : Tuple) (a b ones words masks marks : List ℕ) (
   in-marks : FilledPair stepped leaves shownMark start a b marks i (changed start confirm agreed counts)
 
 abbrev Inv-loop : tie.InvT-loop
-Inv-loop n need word a b words₀ masks₀ marks₀ confirm₀ agreed₀ counts₀ ones disagreed₀ i₀ words masks marks confirm agreed counts disagreed i =
-    Going n (fresh n need word) a b ones words masks marks confirm agreed counts disagreed i
+Inv-loop n votes need word a b words₀ masks₀ marks₀ confirm₀ agreed₀ counts₀ ones disagreed₀ i₀ words masks marks confirm agreed counts disagreed i =
+    Going n (fresh n votes need word) a b ones words masks marks confirm agreed counts disagreed i
 
 abbrev μ-loop : tie.MeasureT-loop
-μ-loop n need word a b words₀ masks₀ marks₀ confirm₀ agreed₀ counts₀ ones disagreed₀ i₀ words masks marks confirm agreed counts disagreed i =
+μ-loop n votes need word a b words₀ masks₀ marks₀ confirm₀ agreed₀ counts₀ ones disagreed₀ i₀ words masks marks confirm agreed counts disagreed i =
     length a - i
 
 -- what is looked at from further on: the start, and within the loop its sample
@@ -53,12 +53,12 @@ abbrev made-of : tie.In-loop Inv-loop μ-loop → tie.After-ones Inv-loop μ-loo
 made-of c = c .before .before
 
 abbrev started : tie.After-ones Inv-loop μ-loop → Tuple
-started c = let x = start-of c .args in fresh (x .n) (x .need) (x .word)
+started c = let x = start-of c .args in fresh (x .n) (x .votes) (x .need) (x .word)
 
 -- the run is accepted
 accepted : (c : tie.After-ones Inv-loop μ-loop) → let x = start-of c .args in
     Accepted (x .n) (started c) (x .a .now) (x .b .now) (x .words .now) (x .masks .now) (x .marks .now)
-accepted c = accept _ _ _ _ _ _ _ _ (start-of c .pre)
+accepted c = accept _ _ _ _ _ _ _ _ _ (start-of c .pre)
 
 loop-holds : tie.Need-loop-holds Inv-loop μ-loop
 loop-holds c =
@@ -108,8 +108,8 @@ loop-again c =
     let inv = l .inv in
     let more = in-loop .loop-test .taken in
     let x = start-of (made-of in-loop) .args in
-    let looked = voted .step-sample .ensures ∙ ap (λ (d : ℕ). votersBy (x .n) (x .need) (l .agreed) (l .counts) (getD (x .a .now) (l .i) 0) d) (found-so found)
-    ∙ look (x .n) (x .need) (l .agreed) (l .counts) (getD (x .a .now) (l .i) 0) (getD (x .b .now) (l .i) 0) in
+    let looked = voted .step-sample .ensures ∙ ap (λ (d : ℕ). votersBy (x .n) (x .votes) (l .agreed) (l .counts) (getD (x .a .now) (l .i) 0) d) (found-so found)
+    ∙ look (x .n) (x .votes) (l .agreed) (l .counts) (getD (x .a .now) (l .i) 0) (getD (x .b .now) (l .i) 0) in
     let t = taken _ _ (changed (started (made-of in-loop)) (l .confirm) (l .agreed) (l .counts)) (inv .sound) (inv .votes) (inv .counts-long) _ _
     (voted .step-sample .result) _ looked (decided .result) (decided .ensures) in
     let inside = accepted (made-of in-loop) .inside (l .i) more in
