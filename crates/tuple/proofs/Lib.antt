@@ -6,6 +6,7 @@ pub mod Disagreement
 pub mod Exactly
 pub mod InParts
 pub mod Masks
+pub mod OneCount
 pub mod Ones
 pub mod PerSignal
 pub mod Rows
@@ -13,5 +14,6 @@ pub mod Runs
 pub mod Small
 pub mod Sound
 pub mod Stepwise
+pub mod TwoCounts
 pub mod TwoWords
 pub mod Unique

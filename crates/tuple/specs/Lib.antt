@@ -1,5 +1,6 @@
 pub mod Answers
 pub mod Disagreement
+pub mod OneCount
 pub mod Parts
 pub mod Run
 pub mod Tuple
