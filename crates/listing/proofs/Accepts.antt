@@ -18,6 +18,7 @@ use Rattle.confirm.specs.Run as confirmRun
 use Rattle.confirm.specs.declared.ConfirmStep.{ConfirmStep}
 use Rattle.tuple.specs.Run as tupleRun
 use Rattle.tuple.specs.declared.TupleStep.{TupleStep}
+use Rattle.tuple.proofs.OneCount.{same-count}
 use Rattle.reserve.specs.Reserve as reserve
 use Rattle.reserve.specs.Run as reserveRun
 use Rattle.reserve.specs.declared.ReserveStep.{ReserveStep}
@@ -61,16 +62,16 @@ module _ (h : Header) (run : Runnable h) where
     abbrev pair-taken : List TupleStep
     pair-taken = pairSteps (h .n) (h .need) (h .word) one two
 
-    pub pair-done : tupleRun.answerOf (h .n) (h .need) (h .word) one two words masks marks ≡ Done
+    pub pair-done : tupleRun.answerOf (h .n) (h .need) (h .need) (h .word) one two words masks marks ≡ Done
     pair-done =
         let e = x .whole in
-        done-when _ _ _ _ _ outsidePair (zip one two)
+        rw (same-count (h .need)) (done-when _ _ _ _ _ outsidePair (zip one two)
         (fine _ _ _ (rw (short e (run .few)) (short (y .whole) (run .few)))
         (rw (alike e (y .whole), alike e (r .for-words), alike e (r .for-lasts)) (alike e (r .for-marks)))
-        (neither (outside (h .n)) (outside (h .n)) one two (same x y) (x .inside) (y .inside)))
+        (neither (outside (h .n)) (outside (h .n)) one two (same x y) (x .inside) (y .inside))))
 
     pub pair-shown :
-        {a : RunAnswer} {words′ masks′ marks′ : List ℕ} → tupleRun.Ran (h .n) (h .need) (h .word) one two words masks marks a words′ masks′ marks′
+        {a : RunAnswer} {words′ masks′ marks′ : List ℕ} → tupleRun.Ran (h .n) (h .need) (h .need) (h .word) one two words masks marks a words′ masks′ marks′
         → (words′ ≡ map tupleRun.shownWord pair-taken) × (marks′ ≡ map tupleRun.shownMark pair-taken) × (masks′ ≡ map tupleRun.shownMask pair-taken)
     pair-shown {a} ran =
         let d : a ≡ Done = ran .answered ∙ pair-done in

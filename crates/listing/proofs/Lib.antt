@@ -4,6 +4,7 @@ pub mod Columns
 pub mod Joined
 pub mod Lines
 pub mod Never
+pub mod OneCount
 pub mod ReadBack
 pub mod Reading
 pub mod Shown

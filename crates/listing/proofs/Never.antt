@@ -27,7 +27,7 @@ module _ (s : List ℕ) (done : readOf false s .answer ≡ Done) where
     pub one-never : h .units ≡ 1 → confirmRun.answerOf (h .n) (h .need) (h .word) (unit s h 1) words marks lasts ≡ Done
     one-never e = confirm-done h (runnable s ok) (column s ok 0 (omega arith)) room
 
-    pub two-never : h .units ≡ 2 → tupleRun.answerOf (h .n) (h .need) (h .word) (unit s h 1) (unit s h 2) words lasts marks ≡ Done
+    pub two-never : h .units ≡ 2 → tupleRun.answerOf (h .n) (h .need) (h .need) (h .word) (unit s h 1) (unit s h 2) words lasts marks ≡ Done
     two-never e = pair-done h (runnable s ok) (column s ok 0 (omega arith)) (column s ok 1 (omega arith)) room
 
     pub four-never : h .units ≡ 4 → reserveRun.answerOf (h .n) (h .need) (h .word) (unit s h 1) (unit s h 2) (unit s h 3) (unit s h 4) words marks ≡ Done

@@ -23,6 +23,7 @@ use Rattle.confirm.specs.Run as confirmRun
 use Rattle.confirm.proofs.Stepwise as confirmSteps
 use Rattle.tuple.specs.Tuple as tuple
 use Rattle.tuple.specs.Run as tupleRun
+use Rattle.tuple.proofs.OneCount.{same-count}
 use Rattle.tuple.proofs.Sound as tupleSound
 use Rattle.vote.proofs.Stepwise as voteSteps
 use Rattle.reserve.specs.Reserve as reserve
@@ -100,7 +101,7 @@ module _ (s : List ℕ) (done : readOf false s .answer ≡ Done) where
   two-listable x y =
       run-listable tupleRun.stepped tupleRun.leaves (tupleSound.Sound (h .n)) (λ (w : ℕ × ℕ). Unit {0}) (λ t w g f. tupleSound.sound-next (h .n) t g (w .0) (w .1)) (0, 0)
       h run Pair tupleRun.shownWord tupleRun.shownMark tupleRun.shownMask (λ t w g f. tuple-tells (h .n) t (w .0) (w .1) g)
-      (tuple.fresh (h .n) (h .need) (h .word)) (zip (unit s h 1) (unit s h 2)) (tupleSound.fresh-sound (h .n) (h .need) (h .word) made) (λ i l. tt) (two-long (unit s h 1) (unit s h 2) (x .whole) (y .whole))
+      (tuple.fresh (h .n) (h .need) (h .need) (h .word)) (zip (unit s h 1) (unit s h 2)) (tupleSound.fresh-sound (h .n) (h .need) (h .need) (h .word) (rw (same-count (h .need)) made)) (λ i l. tt) (two-long (unit s h 1) (unit s h 2) (x .whole) (y .whole))
 
   four-listable :
       (units : (Column h (unit s h 1)) × (Column h (unit s h 2)) × (Column h (unit s h 3)) × (Column h (unit s h 4)))

@@ -69,7 +69,7 @@ confirmText n need word samples =
 
 -- the recording's N serves the voters and the confirmation
 abbrev pub pairSteps : ℕ → ℕ → ℕ → List ℕ → List ℕ → List TupleStep
-pairSteps n need word one two = tupleRun.steps (tuple.fresh n need word) (zip one two)
+pairSteps n need word one two = tupleRun.steps (tuple.fresh n need need word) (zip one two)
 
 abbrev pub pairText : ℕ → ℕ → ℕ → List ℕ → List ℕ → List ℕ
 pairText n need word one two =

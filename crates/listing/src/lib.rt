@@ -63,7 +63,7 @@ fn list_confirm(
     sheet::put_listing(out, Kind::Confirm, h.n, h.need, words, marks, counts)
 }
 
-// Two take the tuple vote; the last field is the alarm mask.
+// Two take the tuple vote, whose two counts are the recording's N; the last field is the alarm mask.
 fn list_pair(
     h: Header,
     one: &[u32],
@@ -79,7 +79,7 @@ fn list_pair(
     requires { ⌜ Room h (now words) (now marks) (now masks) ⌝ }
     ensures { λ r. ⌜ Writes (now (out .entry)) 0 (pairText (h .n) (h .need) (h .word) (now (one .entry)) (now (two .entry))) r (now (out .exit)) ⌝ }
 {
-    tuple::run(h.n, h.need, h.word, one, two, words, masks, marks);
+    tuple::run(h.n, h.need, h.need, h.word, one, two, words, masks, marks);
     sheet::put_listing(out, Kind::Pair, h.n, h.need, words, marks, masks)
 }
 
