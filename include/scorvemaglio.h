@@ -33,9 +33,10 @@
  *   - The program has a memset, which is all that the archive needs of it.
  *
  * A word is a tuple of n signals, signal i at bit i; n is 1 to 32, and the bits
- * at n and above are zero. need is the count N, 1 to 1,000. A trace has at most
- * 2,048 samples, and all slices lent to a run have as many places as it has
- * samples.
+ * at n and above are zero. need is the count N, 1 to 1,000; a tuple vote has
+ * two: votes for its voters and need for its confirmation, in this order. A trace
+ * has at most 2,048 samples, and all slices lent to a run have as many places as
+ * it has samples.
  */
 #ifndef SCORVEMAGLIO_H
 #define SCORVEMAGLIO_H
@@ -62,7 +63,7 @@ extern "C" {
  * compiled with another number than the archive's does not link: the number is
  * part of a name that every object with this header in it refers to, so each
  * needs the archive, also if it calls nothing. */
-#define SCORVE_VERSION 2
+#define SCORVE_VERSION 3
 
 /* The version of the archive, for those who do not compile this header. */
 uint32_t scorve_version(void);
@@ -81,7 +82,7 @@ static void (*const scorve_abi)(void) SCORVE_KEPT = SCORVE_ABI;
 #undef SCORVE_KEPT
 
 #define SCORVE_MAX_WIDTH 32      /* n, the signals of a word */
-#define SCORVE_MAX_COUNT 1000    /* need */
+#define SCORVE_MAX_COUNT 1000    /* need, votes */
 #define SCORVE_MAX_SAMPLES 2048  /* of a trace; the places of the reader's slices */
 #define SCORVE_LONGEST_RECORDING 41004 /* bytes */
 #define SCORVE_LONGEST_LISTING 50111   /* bytes; what a listing's buffer needs */
@@ -90,16 +91,16 @@ static void (*const scorve_abi)(void) SCORVE_KEPT = SCORVE_ABI;
  * recordings has an order of its own. */
 enum scorve_refusal {
   SCORVE_OK = 0,
-  SCORVE_BAD_COUNT = 1,     /* need is 0 or above 1,000 */
+  SCORVE_BAD_COUNT = 1,     /* need, or a tuple vote's votes, is 0 or above 1,000 */
   SCORVE_BAD_WIDTH = 2,     /* n is 0 or above 32 */
   SCORVE_TOO_LONG = 3,      /* a trace has more than 2,048 samples */
   SCORVE_BAD_LENGTH = 4,    /* slices of one run differ in length; a slice of the reader has not 2,048 places */
   SCORVE_BAD_WORD = 5,      /* the initial word has a bit at n or above */
   SCORVE_BAD_SAMPLE = 6,    /* a sample has such a bit; *sample is the smallest number of one */
-  SCORVE_BAD_STATE = 7,     /* a count above need - 1, or in a tuple vote above 0 at n and above; a stored word outside
-                               the width; a phase above 2 */
+  SCORVE_BAD_STATE = 7,     /* a count above need - 1, that of a tuple's voter above votes - 1, or above 0 at n and
+                               above; a stored word outside the width; a phase above 2 */
   SCORVE_BAD_TIMES = 9,     /* sizing: a gap or the delay is outside its limits */
-  SCORVE_COUNT_TOO_BIG = 10, /* sizing: the count would exceed 1,000 */
+  SCORVE_COUNT_TOO_BIG = 10, /* sizing: either count would exceed 1,000 */
   SCORVE_BAD_READING = 11,  /* a reading or the tolerance is not finite, or the tolerance is below zero */
   SCORVE_NO_RECORDING = 12, /* the bytes are not a recording */
   SCORVE_BUFFER_TOO_SHORT = 100 /* the listing's buffer has fewer than SCORVE_LONGEST_LISTING bytes */
@@ -168,8 +169,11 @@ uint32_t scorve_vote_run(uint32_t n, uint32_t need, uint32_t word,
 /* The tuple vote: a vote of its own for each signal, and a confirmation of the
  * voted word. A signal whose units disagree keeps its last agreed value until
  * it alarms, so a word may be confirmed meanwhile; at a sample that alarms the
- * confirmation takes no step. Refusals as above. */
+ * confirmation takes no step. A signal alarms at its votes-th disagreement in a
+ * row; need is the confirmation's. Either may be the greater, so no call can tell
+ * that they are exchanged. Refusals as above. */
 typedef struct scorve_tuple {
+  uint32_t votes;                         /* the voters' N */
   uint32_t n, need, input, output, count; /* the confirmation's */
   uint32_t agreed;                        /* the voters' agreed signals, one word */
   uint32_t counts[SCORVE_MAX_WIDTH];      /* the voters' counts; 0 at n and above */
@@ -180,10 +184,10 @@ typedef struct scorve_tuple_answer {
   uint32_t mask;       /* the signals that alarm, 0 for none */
 } scorve_tuple_answer;
 
-uint32_t scorve_tuple_from_word(scorve_tuple *state, uint32_t n, uint32_t need, uint32_t word);
-uint32_t scorve_tuple_new(scorve_tuple *state, uint32_t n, uint32_t need);
+uint32_t scorve_tuple_from_word(scorve_tuple *state, uint32_t n, uint32_t votes, uint32_t need, uint32_t word);
+uint32_t scorve_tuple_new(scorve_tuple *state, uint32_t n, uint32_t votes, uint32_t need);
 uint32_t scorve_tuple_step(scorve_tuple *state, uint32_t a, uint32_t b, scorve_tuple_answer *answer);
-uint32_t scorve_tuple_run(uint32_t n, uint32_t need, uint32_t word,
+uint32_t scorve_tuple_run(uint32_t n, uint32_t votes, uint32_t need, uint32_t word,
                           const uint32_t *a, size_t a_len,
                           const uint32_t *b, size_t b_len,
                           uint32_t *words, size_t words_len,
@@ -217,11 +221,14 @@ uint32_t scorve_reserve_run(uint32_t n, uint32_t need, uint32_t word,
                             uint8_t *marks, size_t marks_len,
                             uint32_t *sample);
 
-/* Sizing: the count, the age bound and the quiet gap from the least and the
+/* Sizing: both counts, the age bound and the quiet gap from the least and the
  * greatest gap between samples and the greatest delay, in microseconds: 2, 9, 10.
- * The count is for confirmation; a vote needs more (docs/COMMISSIONING.md, 2). */
+ * The vote of two words and the reserve vote compare whole words: their need is
+ * n * (votes - 1) + 1, which may exceed 1,000 (docs/COMMISSIONING.md, 2). */
 typedef struct scorve_sizing {
-  uint64_t count, age, quiet;
+  uint64_t count;      /* for confirmation: hand it over as need; a state's own count is another, which runs */
+  uint64_t votes;      /* for votes on a signal: hand it over as a tuple vote's votes */
+  uint64_t age, quiet; /* the bounds that hold with count for need */
 } scorve_sizing;
 
 uint32_t scorve_sizing_of(uint32_t n, uint32_t least_gap, uint32_t greatest_gap, uint32_t delay,
@@ -275,7 +282,7 @@ uint32_t scorve_listing_list(const uint8_t *bytes, size_t bytes_len,
 #define SCORVE_CHECK(name, test) typedef char name##_is_as_the_library_has_it[(test) ? 1 : -1]
 #endif
 #define SCORVE_ARRAY(type, number, count) SCORVE_CHECK(type, sizeof(type) == (count) * sizeof(number))
-#define SCORVE_COUNTS_AT 6
+#define SCORVE_COUNTS_AT 7
 
 SCORVE_ARRAY(scorve_confirm, uint32_t, 5);
 SCORVE_ARRAY(scorve_confirm_answer, uint32_t, 2);
@@ -286,7 +293,7 @@ SCORVE_CHECK(scorve_tuple_counts, offsetof(scorve_tuple, counts) == SCORVE_COUNT
 SCORVE_ARRAY(scorve_tuple_answer, uint32_t, 3);
 SCORVE_ARRAY(scorve_reserve, uint32_t, 5);
 SCORVE_ARRAY(scorve_reserve_answer, uint32_t, 3);
-SCORVE_ARRAY(scorve_sizing, uint64_t, 3);
+SCORVE_ARRAY(scorve_sizing, uint64_t, 4);
 SCORVE_ARRAY(scorve_readings, double, 4);
 SCORVE_ARRAY(scorve_header, uint32_t, 5);
 

@@ -12,6 +12,7 @@ void sizing(line *in)
   refusal = guarded_sizing_of(n, least_gap, greatest_gap, delay, &sized);
   begin_answer(refusal);
   put(refusal == SCORVE_OK ? sized.count : 0);
+  put(refusal == SCORVE_OK ? sized.votes : 0);
   put(refusal == SCORVE_OK ? sized.age : 0);
   put(refusal == SCORVE_OK ? sized.quiet : 0);
 }

@@ -6,6 +6,7 @@ void answer_run(line *in, const voter *v)
   trace t;
   size_t k;
   t.n = number(in);
+  t.votes = v->two_counts ? number(in) : 0;
   t.need = number(in);
   t.word = number(in);
   for (k = 0; k < v->units; k++)

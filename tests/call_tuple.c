@@ -3,27 +3,27 @@
 
 static void answer_made(uint32_t refusal, const scorve_tuple *state)
 {
-  static const scorve_tuple after_refusal = {.n = 1, .need = 1};
+  static const scorve_tuple after_refusal = {.votes = 1, .n = 1, .need = 1};
   begin_answer(refusal);
   put_numbers(refusal == SCORVE_OK ? state : &after_refusal, sizeof *state);
 }
 
 void tuple_new(line *in)
 {
-  uint32_t n = number(in), need = number(in);
+  uint32_t n = number(in), votes = number(in), need = number(in);
   scorve_tuple state;
   end_of_line(in);
   make_dirty(&state, sizeof state);
-  answer_made(guarded_tuple_new(&state, n, need), &state);
+  answer_made(guarded_tuple_new(&state, n, votes, need), &state);
 }
 
 void tuple_from_word(line *in)
 {
-  uint32_t n = number(in), need = number(in), word = number(in);
+  uint32_t n = number(in), votes = number(in), need = number(in), word = number(in);
   scorve_tuple state;
   end_of_line(in);
   make_dirty(&state, sizeof state);
-  answer_made(guarded_tuple_from_word(&state, n, need, word), &state);
+  answer_made(guarded_tuple_from_word(&state, n, votes, need, word), &state);
 }
 
 void tuple_step(line *in)

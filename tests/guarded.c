@@ -36,14 +36,15 @@ uint32_t guarded_vote_step(scorve_vote *state, uint32_t a, uint32_t b, uint32_t 
   return settle("vote_step", refusal);
 }
 
-uint32_t guarded_tuple_from_word(scorve_tuple *state, uint32_t n, uint32_t need, uint32_t word)
+uint32_t guarded_tuple_from_word(scorve_tuple *state, uint32_t n, uint32_t votes, uint32_t need, uint32_t word)
 {
-  return settle("tuple_from_word", scorve_tuple_from_word(lend("state", state, sizeof *state), n, need, word));
+  uint32_t refusal = scorve_tuple_from_word(lend("state", state, sizeof *state), n, votes, need, word);
+  return settle("tuple_from_word", refusal);
 }
 
-uint32_t guarded_tuple_new(scorve_tuple *state, uint32_t n, uint32_t need)
+uint32_t guarded_tuple_new(scorve_tuple *state, uint32_t n, uint32_t votes, uint32_t need)
 {
-  return settle("tuple_new", scorve_tuple_new(lend("state", state, sizeof *state), n, need));
+  return settle("tuple_new", scorve_tuple_new(lend("state", state, sizeof *state), n, votes, need));
 }
 
 uint32_t guarded_tuple_step(scorve_tuple *state, uint32_t a, uint32_t b, scorve_tuple_answer *answer)

@@ -34,10 +34,15 @@ int is_outside(uint32_t word, uint32_t n)
   return n < SCORVE_MAX_WIDTH && word >> n != 0;
 }
 
+int is_bad_count(uint32_t count)
+{
+  return count == 0 || count > SCORVE_MAX_COUNT;
+}
+
 /* 1 and 2 stand before all other numbers. */
 uint32_t width_and_count_refusal(uint32_t n, uint32_t need)
 {
-  if (need == 0 || need > SCORVE_MAX_COUNT)
+  if (is_bad_count(need))
     return SCORVE_BAD_COUNT;
   if (n == 0 || n > SCORVE_MAX_WIDTH)
     return SCORVE_BAD_WIDTH;

@@ -9,6 +9,7 @@ uint32_t chance(void);
 uint32_t chance_below(uint32_t end);
 uint32_t word_by_chance(uint32_t n);
 int is_outside(uint32_t word, uint32_t n);
+int is_bad_count(uint32_t count);
 uint32_t width_and_count_refusal(uint32_t n, uint32_t need);
 uint32_t pick(size_t *rest, const uint32_t *values, size_t count);
 #define PICK(rest, values) pick(&(rest), values, sizeof(values) / sizeof *(values))

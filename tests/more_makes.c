@@ -58,20 +58,21 @@ static void make_vote(uint32_t n, uint32_t need, uint32_t word)
              sizeof state);
 }
 
-static scorve_tuple fresh_tuple(uint32_t n, uint32_t need, uint32_t word)
+static scorve_tuple fresh_tuple(uint32_t n, uint32_t votes, uint32_t need, uint32_t word)
 {
-  scorve_tuple state = {.n = n, .need = need, .input = word, .output = word, .agreed = word};
+  scorve_tuple state = {.votes = votes, .n = n, .need = need, .input = word, .output = word, .agreed = word};
   return state;
 }
 
-static void make_tuple(uint32_t n, uint32_t need, uint32_t word)
+static void make_tuple(uint32_t n, uint32_t votes, uint32_t need, uint32_t word)
 {
-  scorve_tuple state, fresh = fresh_tuple(n, need, word), usual = fresh_tuple(n, need, DEFAULT_WORD);
+  scorve_tuple state, fresh = fresh_tuple(n, votes, need, word), usual = fresh_tuple(n, votes, need, DEFAULT_WORD);
+  uint32_t worse = is_bad_count(votes) ? votes : need; /* 1 covers both */
   make_dirty(&state, sizeof state);
-  check_made("tuple", guarded_tuple_from_word(&state, n, need, word), refusal_of(n, need, word), &state, &fresh,
-             sizeof state);
+  check_made("tuple", guarded_tuple_from_word(&state, n, votes, need, word), refusal_of(n, worse, word), &state,
+             &fresh, sizeof state);
   make_dirty(&state, sizeof state);
-  check_made("tuple", guarded_tuple_new(&state, n, need), refusal_of(n, need, DEFAULT_WORD), &state, &usual,
+  check_made("tuple", guarded_tuple_new(&state, n, votes, need), refusal_of(n, worse, DEFAULT_WORD), &state, &usual,
              sizeof state);
 }
 
@@ -92,6 +93,14 @@ static void make_reserve(uint32_t n, uint32_t need, uint32_t word)
              sizeof state);
 }
 
+/* The counts of the voters, with each combination of the rest. */
+static void make_tuples(uint32_t n, uint32_t need, uint32_t word)
+{
+  size_t i;
+  for (i = 0; i < sizeof needs / sizeof *needs; i++)
+    make_tuple(n, needs[i], need, word);
+}
+
 void more_makes(void)
 {
   size_t i, rest = 0;
@@ -104,7 +113,7 @@ void more_makes(void)
     checking("constructors", (unsigned long)i);
     make_confirm(n, need, word);
     make_vote(n, need, word);
-    make_tuple(n, need, word);
+    make_tuples(n, need, word);
     make_reserve(n, need, word);
   }
 }

@@ -5,36 +5,50 @@
 
 #include "more.h"
 
+/* floor(D / Tm) + 1, and ceil(D / Tm) + 1, which is one more where something is left. */
+static uint32_t count_of(uint32_t least_gap, uint32_t delay)
+{
+  return delay / least_gap + 1;
+}
+
+static uint32_t votes_of(uint32_t least_gap, uint32_t delay)
+{
+  return count_of(least_gap, delay) + (delay % least_gap != 0);
+}
+
 static uint32_t sizing_refusal(uint32_t n, uint32_t least_gap, uint32_t greatest_gap, uint32_t delay)
 {
   if (n == 0 || n > SCORVE_MAX_WIDTH)
     return SCORVE_BAD_WIDTH;
   if (least_gap == 0 || least_gap > greatest_gap || greatest_gap > 1000000 || delay > 10000000)
     return SCORVE_BAD_TIMES;
-  return delay / least_gap + 1 > SCORVE_MAX_COUNT ? SCORVE_COUNT_TOO_BIG : SCORVE_OK;
+  if (count_of(least_gap, delay) > SCORVE_MAX_COUNT || votes_of(least_gap, delay) > SCORVE_MAX_COUNT)
+    return SCORVE_COUNT_TOO_BIG;
+  return SCORVE_OK;
 }
 
 static void check_sizing(uint32_t n, uint32_t least_gap, uint32_t greatest_gap, uint32_t delay)
 {
   uint32_t refusal, expected = sizing_refusal(n, least_gap, greatest_gap, delay);
-  uint64_t count, waiting;
+  uint64_t waiting;
   scorve_sizing sized;
   make_dirty(&sized, sizeof sized);
   refusal = guarded_sizing_of(n, least_gap, greatest_gap, delay, &sized);
   check(refusal == expected, "sizing: refused with %lu, not %lu", (unsigned long)refusal, (unsigned long)expected);
   if (refusal != SCORVE_OK || expected != SCORVE_OK)
     return;
-  count = delay / least_gap + 1;
-  waiting = n * count;
-  check(sized.count == count && sized.age == waiting * greatest_gap + delay &&
-        sized.quiet == (waiting + 1) * greatest_gap + delay, "sizing: other numbers");
+  waiting = (uint64_t)n * count_of(least_gap, delay);
+  check(sized.count == count_of(least_gap, delay) && sized.votes == votes_of(least_gap, delay) &&
+        sized.age == waiting * greatest_gap + delay && sized.quiet == (waiting + 1) * greatest_gap + delay,
+        "sizing: other numbers");
 }
 
 static void sizings(void)
 {
   static const uint32_t widths[] = {0, 1, 3, 32, 33, UINT32_MAX};
-  static const uint32_t gaps[] = {0, 1, 10, 12, 10001, 999999, 1000000, 1000001, UINT32_MAX};
-  static const uint32_t delays[] = {0, 9, 10, 25, 999, 1000, 9999, 10000, 9999999, 10000000, 10000001, UINT32_MAX};
+  static const uint32_t gaps[] = {0, 1, 2, 10, 12, 10001, 999999, 1000000, 1000001, UINT32_MAX};
+  static const uint32_t delays[] = {0, 9, 10, 25, 999, 1000, 1998, 1999, 9999, 10000, 9999999, 10000000, 10000001,
+                                    UINT32_MAX};
   size_t i, rest = 0;
   for (i = 0; rest == 0; i++) {
     uint32_t n, least_gap, greatest_gap;

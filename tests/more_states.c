@@ -1,5 +1,5 @@
-/* Steps of confirmation and of the tuple vote on random states, good and damaged, against the papers' clauses. The
- * first five fields of a tuple state are a confirmation's. */
+/* Steps of confirmation and of the tuple vote on random states, good and damaged, against the papers' clauses. A tuple
+ * state has a confirmation's fields among its own. */
 #include <string.h>
 
 #include "more.h"
@@ -13,21 +13,22 @@ static scorve_tuple state_by_chance(void)
   size_t i;
   memset(&state, 0, sizeof state);
   state.n = chance_below(3) == 0 ? SCORVE_MAX_WIDTH - chance_below(2) : 1 + chance_below(4);
+  state.votes = chance_below(8) == 0 ? SCORVE_MAX_COUNT : 1 + chance_below(3);
   state.need = chance_below(8) == 0 ? SCORVE_MAX_COUNT : 1 + chance_below(3);
   state.input = word_by_chance(state.n);
   state.output = word_by_chance(state.n);
   state.count = chance_below(state.need);
   state.agreed = word_by_chance(state.n);
   for (i = 0; i < state.n; i++)
-    state.counts[i] = chance_below(2) == 0 ? state.need - 1 : chance_below(state.need);
+    state.counts[i] = chance_below(2) == 0 ? state.votes - 1 : chance_below(state.votes);
   return state;
 }
 
-/* One of twelve damages; some do no harm to some states, which the rule then says too. */
+/* One of fourteen damages; some do no harm to some states, which the rule then says too. */
 static void damage(scorve_tuple *state, uint32_t *a, uint32_t *b)
 {
   uint32_t high = 1u << chance_below(SCORVE_MAX_WIDTH);
-  switch (chance_below(12)) {
+  switch (chance_below(14)) {
   case 0: state->need = 0; break;
   case 1: state->need = SCORVE_MAX_COUNT + 1; break;
   case 2: state->n = 0; break;
@@ -38,7 +39,9 @@ static void damage(scorve_tuple *state, uint32_t *a, uint32_t *b)
   case 7: state->output |= high; break;
   case 8: state->agreed |= high; break;
   case 9: state->count = state->need; break;
-  case 10: state->counts[chance_below(SCORVE_MAX_WIDTH)] = state->need; break;
+  case 10: state->counts[chance_below(SCORVE_MAX_WIDTH)] = state->votes; break;
+  case 11: state->votes = 0; break;
+  case 12: state->votes = SCORVE_MAX_COUNT + 1; break;
   default: state->counts[chance_below(SCORVE_MAX_WIDTH)] = 1; break;
   }
 }
@@ -55,14 +58,16 @@ static uint32_t confirm_refusal(const scorve_tuple *state, uint32_t all)
   return SCORVE_OK;
 }
 
-/* Beside the confirmation's: counts below n up to need - 1, nothing at n and above. */
+/* Beside the confirmation's: the voters' count, counts below n up to votes - 1, nothing at n and above. */
 static uint32_t tuple_refusal(const scorve_tuple *state, uint32_t all)
 {
   uint32_t refusal = confirm_refusal(state, all);
   int bad = is_outside(state->agreed, state->n);
   size_t i;
+  if (is_bad_count(state->votes))
+    return SCORVE_BAD_COUNT;
   for (i = 0; i < SCORVE_MAX_WIDTH; i++)
-    bad = bad || state->counts[i] > (i < state->n ? state->need - 1 : 0);
+    bad = bad || state->counts[i] > (i < state->n ? state->votes - 1 : 0);
   return refusal == SCORVE_OK && bad ? (uint32_t)SCORVE_BAD_STATE : refusal;
 }
 
@@ -90,7 +95,7 @@ static uint32_t signal_clauses(scorve_tuple *state, uint32_t a, uint32_t b, size
     state->counts[i] = 0;
     return 0;
   }
-  if (state->counts[i] < state->need - 1) {
+  if (state->counts[i] < state->votes - 1) {
     state->counts[i]++;
     return 0;
   }

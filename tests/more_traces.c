@@ -21,7 +21,7 @@ static void set_lengths(trace *t, size_t units, size_t outputs)
 /* A trace of zeros, all slices of this length. */
 static trace quiet_trace(const voter *v, size_t length)
 {
-  trace t = {.n = 3, .need = 2};
+  trace t = {.n = 3, .votes = 2, .need = 2};
   size_t k;
   memset(unit_places, 0, sizeof unit_places);
   for (k = 0; k < UNITS; k++)
@@ -68,6 +68,9 @@ static void damaged_empty_trace(const voter *v)
   check_run(v, &t, SCORVE_BAD_WIDTH, 0);
   t.need = 1001;
   check_run(v, &t, SCORVE_BAD_COUNT, 0);
+  t.need = 2;
+  t.votes = 1001;
+  check_run(v, &t, v->two_counts ? SCORVE_BAD_COUNT : SCORVE_BAD_WIDTH, 0);
 }
 
 /* The units come first. */
@@ -109,6 +112,9 @@ static void damages_mended_one_by_one(const voter *v)
   unit_places[v->units - 1][3] = 8;
   check_run(v, &t, SCORVE_BAD_COUNT, 0);
   t.need = 2;
+  t.votes = 0;
+  check_run(v, &t, v->two_counts ? SCORVE_BAD_COUNT : SCORVE_BAD_WIDTH, 0);
+  t.votes = 2;
   check_run(v, &t, SCORVE_BAD_WIDTH, 0);
   t.n = 3;
   check_run(v, &t, SCORVE_TOO_LONG, 0);
@@ -152,6 +158,7 @@ static trace trace_by_chance(const voter *v, size_t length)
   trace t = quiet_trace(v, length);
   size_t i;
   t.n = chance_below(2) == 0 ? 1 + chance_below(3) : 1 + chance_below(32);
+  t.votes = chance_below(8) == 0 ? 1 + chance_below(1000) : 1 + chance_below(3);
   t.need = chance_below(8) == 0 ? 1 + chance_below(1000) : 1 + chance_below(3);
   t.word = word_by_chance(t.n);
   for (i = 0; i < length; i++) {

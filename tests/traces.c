@@ -40,7 +40,7 @@ static uint32_t run_vote(const trace *t, const lent_trace *lent)
 
 static uint32_t run_tuple(const trace *t, const lent_trace *lent)
 {
-  return scorve_tuple_run(t->n, t->need, t->word, IN(0), IN(1), OUT(0), OUT(1), OUT(2), lent->sample);
+  return scorve_tuple_run(t->n, t->votes, t->need, t->word, IN(0), IN(1), OUT(0), OUT(1), OUT(2), lent->sample);
 }
 
 static uint32_t run_reserve(const trace *t, const lent_trace *lent)
@@ -101,7 +101,7 @@ static void step_tuple(const voter *v, const trace *t)
   scorve_tuple_answer answer;
   size_t i;
   make_dirty(&state, sizeof state);
-  check_made(guarded_tuple_from_word(&state, t->n, t->need, t->word));
+  check_made(guarded_tuple_from_word(&state, t->n, t->votes, t->need, t->word));
   for (i = 0; i < t->units[0].length; i++) {
     uint32_t refusal;
     make_dirty(&answer, sizeof answer);
@@ -137,8 +137,8 @@ static void step_reserve(const voter *v, const trace *t)
 #define BYTES(name) {name, sizeof(uint8_t)}
 
 const voter voters[VOTERS] = {
-  {"confirm_run", 1, {WORDS("words"), BYTES("marks"), WORDS("counts")}, 1, SCORVE_HELD, run_confirm, step_confirm},
-  {"vote_run", 2, {WORDS("words"), BYTES("marks")}, 1, SCORVE_ALARM, run_vote, step_vote},
-  {"tuple_run", 2, {WORDS("words"), WORDS("masks"), BYTES("marks")}, 2, SCORVE_ALARM, run_tuple, step_tuple},
-  {"reserve_run", 4, {WORDS("words"), BYTES("marks")}, 1, SCORVE_ALARM, run_reserve, step_reserve},
+  {"confirm_run", 0, 1, {WORDS("words"), BYTES("marks"), WORDS("counts")}, 1, SCORVE_HELD, run_confirm, step_confirm},
+  {"vote_run", 0, 2, {WORDS("words"), BYTES("marks")}, 1, SCORVE_ALARM, run_vote, step_vote},
+  {"tuple_run", 1, 2, {WORDS("words"), WORDS("masks"), BYTES("marks")}, 2, SCORVE_ALARM, run_tuple, step_tuple},
+  {"reserve_run", 0, 4, {WORDS("words"), BYTES("marks")}, 1, SCORVE_ALARM, run_reserve, step_reserve},
 };

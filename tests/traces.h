@@ -9,7 +9,7 @@
 
 /* The arguments of a run; a voter uses the first slices, as many as it has. */
 typedef struct trace {
-  uint32_t n, need, word, sample;
+  uint32_t n, votes, need, word, sample; /* votes: of a voter with two counts */
   words units[UNITS]; /* the samples */
   slice outputs[OUTPUTS];
 } trace;
@@ -29,6 +29,7 @@ typedef struct output {
 
 typedef struct voter {
   const char *name;        /* of its run */
+  int two_counts;          /* votes for the voters, and need */
   size_t units;            /* how many columns of samples the run reads */
   output outputs[OUTPUTS]; /* in the order of its arguments; the rest have no name */
   size_t marks;            /* the output that holds the marks */

@@ -133,13 +133,13 @@ vote-run-unique κs = fixes (λ a z e p. let r = p .ran in let q = p .told in cc
 pub tuple-from-word-unique :
     (κs : Lfts 1)
     → Fixes {O = Made} (tuple-from-word.Learnt κs) (λ z e. (z, now (e .0)))
-    (λ a. let m = tuple.madeOf (a .1 .0) (a .1 .1 .0) (a .1 .1 .1 .0) in made (m .refusal) (tupleNumbers (m .state)) (now (a .0)))
+    (λ a. let m = tuple.madeOf (a .1 .0) (a .1 .1 .0) (a .1 .1 .1 .0) (a .1 .1 .1 .1 .0) in made (m .refusal) (tupleNumbers (m .state)) (now (a .0)))
 tuple-from-word-unique κs = fixes (λ a z e p. makes-says p)
 
 pub tuple-new-unique :
     (κs : Lfts 1)
     → Fixes {O = Made} (tuple-new.Learnt κs) (λ z e. (z, now (e .0)))
-    (λ a. let m = tuple.madeOf (a .1 .0) (a .1 .1 .0) (defaultWord (a .1 .0)) in made (m .refusal) (tupleNumbers (m .state)) (now (a .0)))
+    (λ a. let m = tuple.madeOf (a .1 .0) (a .1 .1 .0) (a .1 .1 .1 .0) (defaultWord (a .1 .0)) in made (m .refusal) (tupleNumbers (m .state)) (now (a .0)))
 tuple-new-unique κs = fixes (λ a z e p. makes-says p)
 
 pub tuple-step-unique :
@@ -153,10 +153,10 @@ tuple-step-unique κs = fixes (λ a z e p. steps-says p)
 pub tuple-run-unique :
     (κs : Lfts 6)
     → Fixes (tuple-run.Learnt κs)
-    (λ z e. let lent = e .1 .1 .1 .1 .1 in (z, now (lent .1 .1 .1 .0), now (lent .0), now (lent .1 .0), now (lent .1 .1 .0)))
+    (λ z e. let lent = e .1 .1 .1 .1 .1 .1 in (z, now (lent .1 .1 .1 .0), now (lent .0), now (lent .1 .0), now (lent .1 .1 .0)))
     (λ a.
-    let lent = a .1 .1 .1 in
-    told-three (tuple-ran (a .0) (a .1 .0) (a .1 .1 .0) (now (lent .0)) (now (lent .1 .0)) (now (lent .1 .1 .0)) (now (lent .1 .1 .1 .0)) (now (lent .1 .1 .1 .1 .0))))
+    let lent = a .1 .1 .1 .1 in
+    told-three (tuple-ran (a .0) (a .1 .0) (a .1 .1 .0) (a .1 .1 .1 .0) (now (lent .0)) (now (lent .1 .0)) (now (lent .1 .1 .0)) (now (lent .1 .1 .1 .0)) (now (lent .1 .1 .1 .1 .0))))
 tuple-run-unique κs = fixes (λ a z e p. let r = p .ran in let q = p .told in cc)
 
 pub reserve-from-word-unique :

@@ -27,7 +27,7 @@ pub sizing-of-unique :
     → Fixes {O = Made} (sizing-of.Learnt κs) (λ z e. (z, now (e .1 .1 .1 .1 .0)))
     (λ a.
     let x = sizingOf (a .0) (a .1 .0) (a .1 .1 .0) (a .1 .1 .1 .0) in
-    made (x .refusal) (x .need ∷ x .age ∷ x .quiet ∷ []) (now (a .1 .1 .1 .1 .0)))
+    made (x .refusal) (x .need ∷ x .votes ∷ x .age ∷ x .quiet ∷ []) (now (a .1 .1 .1 .1 .0)))
 sizing-of-unique κs = fixes (λ a z e p. makes-says p)
 
 -- the number, the reading and the mark

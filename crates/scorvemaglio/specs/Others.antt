@@ -18,9 +18,9 @@ use Rattle.listing.specs.declared.ListAnswer.{ListAnswer}
 use Rattle.listing.specs.declared.ListAnswer.the-variants.{Listed, Refused as LineOnly, TooShort}
 use Rattle.scorvemaglio.specs.Lent.{Makes, Tells, unlessRefused}
 
--- the sizing writes the count, the age bound and the quiet gap
+-- the sizing writes the confirmation's count, the votes', the age bound and the quiet gap
 abbrev pub MakesSizing : Sizing → List ℕ → ℕ → List ℕ → Type 0
-MakesSizing x = Makes (x .refusal) (x .need ∷ x .age ∷ x .quiet ∷ [])
+MakesSizing x = Makes (x .refusal) (x .need ∷ x .votes ∷ x .age ∷ x .quiet ∷ [])
 
 -- the readings as C has them: four floats
 abbrev pub readingsOf : List Float → Readings

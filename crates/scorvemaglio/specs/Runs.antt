@@ -15,9 +15,9 @@ pub record RunsVote (n need word : ℕ) (a b words marks : List ℕ) (r sample�
   pub told : Tells (voteRun.answerOf n need word a b words marks) r sample′
   pub ran : voteRun.Ran n need word a b words marks (voteRun.answerOf n need word a b words marks) words′ marks′
 
-pub record RunsTuple (n need word : ℕ) (a b words masks marks : List ℕ) (r sample′ : ℕ) (words′ masks′ marks′ : List ℕ) : Type 0 where
-  pub told : Tells (tupleRun.answerOf n need word a b words masks marks) r sample′
-  pub ran : tupleRun.Ran n need word a b words masks marks (tupleRun.answerOf n need word a b words masks marks) words′ masks′ marks′
+pub record RunsTuple (n votes need word : ℕ) (a b words masks marks : List ℕ) (r sample′ : ℕ) (words′ masks′ marks′ : List ℕ) : Type 0 where
+  pub told : Tells (tupleRun.answerOf n votes need word a b words masks marks) r sample′
+  pub ran : tupleRun.Ran n votes need word a b words masks marks (tupleRun.answerOf n votes need word a b words masks marks) words′ masks′ marks′
 
 pub record RunsReserve (n need word : ℕ) (a b c d words marks : List ℕ) (r sample′ : ℕ) (words′ marks′ : List ℕ) : Type 0 where
   pub told : Tells (reserveRun.answerOf n need word a b c d words marks) r sample′

@@ -24,18 +24,24 @@ voteOf s = record { n = getD s 0 0; need = getD s 1 0; word = getD s 2 0; count 
 abbrev pub voteNumbers : Vote → List ℕ
 voteNumbers s = s .n ∷ s .need ∷ s .word ∷ s .count ∷ []
 
--- the confirmation's five numbers, the agreed signals, and the counts of 32 places
+-- the voters' count, the confirmation's five numbers, the agreed signals, and the counts of 32 places
 abbrev pub countsAt : ℕ
-countsAt = 6
+countsAt = 7
 
 abbrev pub tupleLength : ℕ
 tupleLength = countsAt + 32
 
 abbrev pub tupleOf : List ℕ → Tuple
-tupleOf s = record { confirm = confirmOf s; agreed = getD s 5 0; counts = drop countsAt s }
+tupleOf s =
+    record {
+      votes = getD s 0 0;
+      confirm = record { n = getD s 1 0; need = getD s 2 0; input = getD s 3 0; output = getD s 4 0; count = getD s 5 0 };
+      agreed = getD s 6 0;
+      counts = drop countsAt s;
+    }
 
 abbrev pub tupleNumbers : Tuple → List ℕ
-tupleNumbers s = confirmNumbers (s .confirm) ++ s .agreed ∷ s .counts
+tupleNumbers s = s .votes ∷ confirmNumbers (s .confirm) ++ s .agreed ∷ s .counts
 
 -- 0 primary, 1 taking over, 2 reserve; any other is no phase
 abbrev pub phaseOf : ℕ → Phase

@@ -16,7 +16,7 @@ pub extern "C" fn scorve_sizing_of(
     least_gap: u32,
     greatest_gap: u32,
     delay: u32,
-    sizing: &mut [u64; 3],
+    sizing: &mut [u64; 4],
 ) -> u32
     ensures { λ r. ⌜ MakesSizing (sizingOf n «least_gap» «greatest_gap» delay) (now (sizing .entry)) r (now (sizing .exit)) ⌝ }
 {
@@ -24,7 +24,12 @@ pub extern "C" fn scorve_sizing_of(
     if sized.refusal != 0 {
         return sized.refusal;
     }
-    *sizing = [sized.need as u64, sized.age, sized.quiet];
+    *sizing = [
+        sized.need as u64,
+        sized.votes as u64,
+        sized.age,
+        sized.quiet,
+    ];
     0
 }
 

@@ -1,4 +1,5 @@
-// The tuple vote, for C: its state is the confirmation's five numbers, the agreed signals and a count for each place.
+// The tuple vote, for C: its state is the voters' count, the confirmation's five numbers, the agreed signals and a count for each
+// place.
 use confirm::Confirm;
 use tuple::Tuple;
 use tuple::TupleMade;
@@ -12,7 +13,7 @@ ghost use Rattle.scorvemaglio.specs.States.{countsAt, tupleOf, tupleNumb
 ghost use Rattle.scorvemaglio.specs.Voters.{MakesTuple, StepsTuple};
 
 // The numbers of a state before its counts, and all of them.
-const COUNTS_AT: usize = 6;
+const COUNTS_AT: usize = 7;
 
 const NUMBERS: usize = COUNTS_AT + 32;
 
@@ -32,16 +33,17 @@ fn tuple_of(s: [u32; NUMBERS]) -> Tuple
     ensures { λ r. ⌜ r ≡ tupleOf s ⌝ }
 {
     let confirm = Confirm {
-        n: s[0],
-        need: s[1],
-        input: s[2],
-        output: s[3],
-        count: s[4],
+        n: s[1],
+        need: s[2],
+        input: s[3],
+        output: s[4],
+        count: s[5],
     };
     let counts = counts_of(s);
     Tuple {
+        votes: s[0],
         confirm,
-        agreed: s[5],
+        agreed: s[6],
         counts,
     }
 }
@@ -52,12 +54,13 @@ fn tuple_numbers(t: Tuple) -> [u32; NUMBERS]
     let confirm = t.confirm;
     let counts = t.counts;
     let mut s = [0u32; NUMBERS];
-    s[0] = confirm.n;
-    s[1] = confirm.need;
-    s[2] = confirm.input;
-    s[3] = confirm.output;
-    s[4] = confirm.count;
-    s[5] = t.agreed;
+    s[0] = t.votes;
+    s[1] = confirm.n;
+    s[2] = confirm.need;
+    s[3] = confirm.input;
+    s[4] = confirm.output;
+    s[5] = confirm.count;
+    s[6] = t.agreed;
     let mut i = COUNTS_AT;
     while i < NUMBERS {
         s[i] = counts[i - COUNTS_AT];
@@ -95,19 +98,20 @@ fn put_step(state: &mut [u32; NUMBERS], answer: &mut [u32; 3], taken: TupleStep)
 pub extern "C" fn scorve_tuple_from_word(
     state: &mut [u32; NUMBERS],
     n: u32,
+    votes: u32,
     need: u32,
     word: u32,
 ) -> u32
-    ensures { λ r. ⌜ MakesTuple (madeOf n need word) (now (state .entry)) r (now (state .exit)) ⌝ }
+    ensures { λ r. ⌜ MakesTuple (madeOf n votes need word) (now (state .entry)) r (now (state .exit)) ⌝ }
 {
-    put_made(state, Tuple::from_word(n, need, word))
+    put_made(state, Tuple::from_word(n, votes, need, word))
 }
 
 #[no_mangle]
-pub extern "C" fn scorve_tuple_new(state: &mut [u32; NUMBERS], n: u32, need: u32) -> u32
-    ensures { λ r. ⌜ MakesTuple (madeOf n need (defaultWord n)) (now (state .entry)) r (now (state .exit)) ⌝ }
+pub extern "C" fn scorve_tuple_new(state: &mut [u32; NUMBERS], n: u32, votes: u32, need: u32) -> u32
+    ensures { λ r. ⌜ MakesTuple (madeOf n votes need (defaultWord n)) (now (state .entry)) r (now (state .exit)) ⌝ }
 {
-    put_made(state, Tuple::new(n, need))
+    put_made(state, Tuple::new(n, votes, need))
 }
 
 #[no_mangle]
@@ -127,6 +131,7 @@ pub extern "C" fn scorve_tuple_step(
 #[no_mangle]
 pub extern "C" fn scorve_tuple_run(
     n: u32,
+    votes: u32,
     need: u32,
     word: u32,
     a: &[u32],
@@ -136,8 +141,11 @@ pub extern "C" fn scorve_tuple_run(
     marks: &mut [u8],
     sample: &mut u32,
 ) -> u32
-    ensures { λ r. ⌜ RunsTuple n need word (now (a .entry)) (now (b .entry)) (now (words .entry)) (now (masks .entry)) (now (marks .entry))
+    ensures { λ r. ⌜ RunsTuple n votes need word (now (a .entry)) (now (b .entry)) (now (words .entry)) (now (masks .entry)) (now (marks .entry))
         r (now (sample .exit)) (now (words .exit)) (now (masks .exit)) (now (marks .exit)) ⌝ }
 {
-    crate::tell(sample, tuple::run(n, need, word, a, b, words, masks, marks))
+    crate::tell(
+        sample,
+        tuple::run(n, votes, need, word, a, b, words, masks, marks),
+    )
 }

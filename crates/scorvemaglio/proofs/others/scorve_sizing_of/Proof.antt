@@ -11,4 +11,5 @@ scorve-sizing-of-spec =
     (λ _ _. tt)
     (λ c. rw (← c .before .before .of .ensures) (not-made (c .if1 .taken)))
     (λ c. search needs)
-    (λ c. rw (← c .before .before .before .before .of .ensures) (made (c .before .before .if1 .left))))
+    (λ c. search needs)
+    (λ c. rw (← c .before .before .before .before .before .of .ensures) (made (c .before .before .before .if1 .left))))

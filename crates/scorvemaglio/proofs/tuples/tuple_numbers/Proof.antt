@@ -36,7 +36,7 @@ placed first counts i e h =
 
 -- the state as it is before the loop: its counts are not written yet
 abbrev begun : Tuple → List ℕ
-begun t = tupleNumbers (record { confirm = t .confirm; agreed = t .agreed; counts = replicate 32 0 })
+begun t = tupleNumbers (record { votes = t .votes; confirm = t .confirm; agreed = t .agreed; counts = replicate 32 0 })
 
 loop-again : tie.Need-loop-again Inv-loop μ-loop
 loop-again c =
@@ -62,6 +62,7 @@ tuple-numbers-spec =
     (tie.spec
     Inv-loop
     μ-loop
+    (λ c. search needs)
     (λ c. search needs)
     (λ c. search needs)
     (λ c. search needs)

@@ -14,4 +14,5 @@ tuple-of-spec =
     (λ c. search needs)
     (λ _ _. tt)
     (λ c. search needs)
+    (λ c. search needs)
     (λ c. rw (c .counts-of .ensures)))
