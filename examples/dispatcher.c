@@ -24,31 +24,32 @@ static const struct { uint32_t unit_1, unit_2; } shown[] = {
 };
 #define CYCLES (sizeof shown / sizeof *shown)
 
-/* The count that the vote needs follows from the clocks, with a gap added to the delay: two sound units may disagree at
- * as many samples as the count for the delay alone, and the vote alarms at the last of them. Two changes of one signal
- * must lie further apart than the quiet gap. Returns 0 if the times are refused. */
-static uint32_t count_for_the_clocks(void)
+/* The counts follow from the clocks: one for the votes on each signal, so that sound units do not alarm, and one for
+ * the confirmation. Two changes of one signal must lie further apart than the quiet gap. Returns 0 if the times are
+ * refused. */
+static int size_for_the_clocks(scorve_sizing *sizing)
 {
-  scorve_sizing sizing;
-  uint32_t refusal = scorve_sizing_of(SIGNALS, LEAST_GAP, GREATEST_GAP, GREATEST_DELAY + LEAST_GAP, &sizing);
+  uint32_t refusal = scorve_sizing_of(SIGNALS, LEAST_GAP, GREATEST_GAP, GREATEST_DELAY, sizing);
   if (refusal != SCORVE_OK) {
     fprintf(stderr, "the measured times are refused with %u\n", (unsigned)refusal);
     return 0;
   }
-  printf("count %lu, quiet gap %lu us\n", (unsigned long)sizing.count, (unsigned long)sizing.quiet);
-  return (uint32_t)sizing.count; /* at most SCORVE_MAX_COUNT */
+  printf("votes %lu, count %lu, quiet gap %lu us\n", (unsigned long)sizing->votes, (unsigned long)sizing->count,
+         (unsigned long)sizing->quiet);
+  return 1;
 }
 
 /* The fresh state is made from the word that the units show while the car rests: from another one, the vote would show
  * a word that never was. Returns 0 if that cannot be. */
-static int start(scorve_tuple *vote, uint32_t count, uint32_t unit_1, uint32_t unit_2)
+static int start(scorve_tuple *vote, const scorve_sizing *sizing, uint32_t unit_1, uint32_t unit_2)
 {
   uint32_t refusal;
   if (unit_1 != unit_2) {
     fprintf(stderr, "the units show %u and %u: wait until the car rests\n", (unsigned)unit_1, (unsigned)unit_2);
     return 0;
   }
-  refusal = scorve_tuple_from_word(vote, SIGNALS, count, unit_1);
+  /* the sizing's counts are at most SCORVE_MAX_COUNT */
+  refusal = scorve_tuple_from_word(vote, SIGNALS, (uint32_t)sizing->votes, (uint32_t)sizing->count, unit_1);
   if (refusal != SCORVE_OK)
     fprintf(stderr, "the vote is refused with %u\n", (unsigned)refusal);
   return refusal == SCORVE_OK;
@@ -78,10 +79,10 @@ static void cycle(scorve_tuple *vote, uint32_t unit_1, uint32_t unit_2)
 
 int main(void)
 {
+  scorve_sizing sizing;
   scorve_tuple vote;
-  uint32_t count = count_for_the_clocks();
   size_t i;
-  if (count == 0 || !start(&vote, count, shown[0].unit_1, shown[0].unit_2))
+  if (!size_for_the_clocks(&sizing) || !start(&vote, &sizing, shown[0].unit_1, shown[0].unit_2))
     return 1;
   for (i = 0; i < CYCLES; i++) {
     printf("cycle %2u, units %u and %u: ", (unsigned)i, (unsigned)shown[i].unit_1, (unsigned)shown[i].unit_2);

@@ -45,13 +45,13 @@ fn cycle(vote: &mut Tuple, unit_1: u32, unit_2: u32) -> String {
 
 /// The `Err` of a refused sizing or constructor is its number, which ends the program with status 1.
 fn main() -> Result<(), u32> {
-    // A gap is added to the delay, lest sound units alarm: dispatcher.c says why.
-    let sizing = sizing_of(SIGNALS, LEAST_GAP, GREATEST_GAP, GREATEST_DELAY + LEAST_GAP)?;
-    println!("count {}, quiet gap {} us", sizing.count, sizing.quiet);
+    // A count for the votes and one for the confirmation, both at most MAX_COUNT.
+    let sizing = sizing_of(SIGNALS, LEAST_GAP, GREATEST_GAP, GREATEST_DELAY)?;
+    println!("votes {}, count {}, quiet gap {} us", sizing.votes, sizing.count, sizing.quiet);
     // The fresh state is made from the word that both units show while the car rests: dispatcher.c says why.
     let (rest, same) = SHOWN[0];
     assert_eq!(rest, same, "wait until the car rests");
-    let mut vote = Tuple::from_word(SIGNALS, sizing.count as u32, rest)?;
+    let mut vote = Tuple::from_word(SIGNALS, sizing.votes as u32, sizing.count as u32, rest)?;
     for (i, (unit_1, unit_2)) in SHOWN.into_iter().enumerate() {
         println!("cycle {i:2}, units {unit_1} and {unit_2}: {}", cycle(&mut vote, unit_1, unit_2));
     }

@@ -13,12 +13,13 @@ static uint32_t times[SAMPLES], one[SAMPLES], two[SAMPLES], three[SAMPLES], four
 static uint32_t words[SAMPLES], masks[SAMPLES];
 static uint8_t marks[SAMPLES], text[SCORVE_LONGEST_LISTING];
 
-/* Votes on the whole trace; every slice of a run has as many places as the trace has samples. */
+/* Votes on the whole trace; every slice of a run has as many places as the trace has samples. A recording's need
+ * serves the voters and the confirmation. */
 static void print_alarms(const scorve_header *header)
 {
   const size_t samples = header->samples;
-  uint32_t sample, refusal = scorve_tuple_run(header->n, header->need, header->word, one, samples, two, samples,
-                                              words, samples, masks, samples, marks, samples, &sample);
+  uint32_t sample, refusal = scorve_tuple_run(header->n, header->need, header->need, header->word, one, samples,
+                                              two, samples, words, samples, masks, samples, marks, samples, &sample);
   size_t i;
   if (refusal != SCORVE_OK) {
     printf("the run is refused with %u at sample %u\n", (unsigned)refusal, (unsigned)sample);

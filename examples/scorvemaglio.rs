@@ -6,7 +6,7 @@
 #![allow(dead_code)] // a program uses what it needs
 
 // The numbers of the header, under its names. `.ci/test-rust-header` compares all that is declared here with it.
-pub const VERSION: u32 = 2;
+pub const VERSION: u32 = 3;
 pub const MAX_WIDTH: usize = 32;
 pub const MAX_COUNT: u32 = 1000;
 pub const MAX_SAMPLES: usize = 2048;
@@ -52,11 +52,12 @@ c_struct!(Confirm { n: u32, need: u32, input: u32, output: u32, count: u32 });
 c_struct!(ConfirmAnswer { word: u32, mark: u32 });
 c_struct!(Vote { n: u32, need: u32, word: u32, count: u32 });
 c_struct!(VoteAnswer { word: u32, mark: u32 });
-c_struct!(Tuple { n: u32, need: u32, input: u32, output: u32, count: u32, agreed: u32, counts: [u32; MAX_WIDTH] });
+c_struct!(Tuple { votes: u32, n: u32, need: u32, input: u32, output: u32, count: u32, agreed: u32,
+    counts: [u32; MAX_WIDTH] });
 c_struct!(TupleAnswer { word: u32, mark: u32, mask: u32 });
 c_struct!(Reserve { phase: u32, n: u32, need: u32, word: u32, count: u32 });
 c_struct!(ReserveAnswer { word: u32, mark: u32, pair: u32 });
-c_struct!(Sizing { count: u64, age: u64, quiet: u64 });
+c_struct!(Sizing { count: u64, votes: u64, age: u64, quiet: u64 });
 c_struct!(Readings { x1: f64, x2: f64, x3: f64, tolerance: f64 });
 c_struct!(Header { units: u32, samples: u32, n: u32, need: u32, word: u32 });
 
@@ -68,7 +69,7 @@ type Marks = *mut u8;
 #[link(name = "scorvemaglio", kind = "static")]
 extern "C" {
     fn scorve_version() -> u32;
-    fn scorve_abi_2();
+    fn scorve_abi_3();
     fn scorve_confirm_from_word(state: &mut Confirm, n: u32, need: u32, word: u32) -> u32;
     fn scorve_confirm_new(state: &mut Confirm, n: u32, need: u32) -> u32;
     fn scorve_confirm_step(state: &mut Confirm, input: u32, answer: &mut ConfirmAnswer) -> u32;
@@ -80,10 +81,10 @@ extern "C" {
     fn scorve_vote_step(state: &mut Vote, a: u32, b: u32, reset: u32, answer: &mut VoteAnswer) -> u32;
     fn scorve_vote_run(n: u32, need: u32, word: u32, a: In, a_len: usize, b: In, b_len: usize,
         words: Out, words_len: usize, marks: Marks, marks_len: usize, sample: &mut u32) -> u32;
-    fn scorve_tuple_from_word(state: &mut Tuple, n: u32, need: u32, word: u32) -> u32;
-    fn scorve_tuple_new(state: &mut Tuple, n: u32, need: u32) -> u32;
+    fn scorve_tuple_from_word(state: &mut Tuple, n: u32, votes: u32, need: u32, word: u32) -> u32;
+    fn scorve_tuple_new(state: &mut Tuple, n: u32, votes: u32, need: u32) -> u32;
     fn scorve_tuple_step(state: &mut Tuple, a: u32, b: u32, answer: &mut TupleAnswer) -> u32;
-    fn scorve_tuple_run(n: u32, need: u32, word: u32, a: In, a_len: usize, b: In, b_len: usize,
+    fn scorve_tuple_run(n: u32, votes: u32, need: u32, word: u32, a: In, a_len: usize, b: In, b_len: usize,
         words: Out, words_len: usize, masks: Out, masks_len: usize, marks: Marks, marks_len: usize,
         sample: &mut u32) -> u32;
     fn scorve_reserve_from_word(state: &mut Reserve, n: u32, need: u32, word: u32) -> u32;
@@ -103,7 +104,7 @@ extern "C" {
 
 // A program with this wrapper in it does not link with an archive of another version.
 #[used]
-static ABI: unsafe extern "C" fn() = scorve_abi_2;
+static ABI: unsafe extern "C" fn() = scorve_abi_3;
 
 /// The version of the archive.
 pub fn version() -> u32 {
@@ -115,24 +116,24 @@ fn accepted<T>(refusal: u32, value: T) -> Result<T, u32> {
     if refusal == 0 { Ok(value) } else { Err(refusal) }
 }
 
-// The two constructors, the same for each voter.
+// The two constructors, the same for each voter but for its counts.
 macro_rules! constructors {
-    ($voter:ident, $from_word:ident, $new:ident) => {
+    ($voter:ident, $from_word:ident, $new:ident, [$($count:ident),*]) => {
         /// A fresh state from an initial word.
-        pub fn from_word(n: u32, need: u32, word: u32) -> Result<$voter, u32> {
+        pub fn from_word(n: u32, $($count: u32,)* word: u32) -> Result<$voter, u32> {
             let mut state = $voter::default();
-            accepted(unsafe { $from_word(&mut state, n, need, word) }, state)
+            accepted(unsafe { $from_word(&mut state, n, $($count,)* word) }, state)
         }
         /// A fresh state from the word zero.
-        pub fn new(n: u32, need: u32) -> Result<$voter, u32> {
+        pub fn new(n: u32, $($count: u32),*) -> Result<$voter, u32> {
             let mut state = $voter::default();
-            accepted(unsafe { $new(&mut state, n, need) }, state)
+            accepted(unsafe { $new(&mut state, n, $($count),*) }, state)
         }
     };
 }
 
 impl Confirm {
-    constructors!(Confirm, scorve_confirm_from_word, scorve_confirm_new);
+    constructors!(Confirm, scorve_confirm_from_word, scorve_confirm_new, [need]);
     /// One sample. A refused step leaves the state as it is; so do those of the other voters.
     pub fn step(&mut self, input: u32) -> Result<ConfirmAnswer, u32> {
         let mut answer = ConfirmAnswer::default();
@@ -141,7 +142,7 @@ impl Confirm {
 }
 
 impl Vote {
-    constructors!(Vote, scorve_vote_from_word, scorve_vote_new);
+    constructors!(Vote, scorve_vote_from_word, scorve_vote_new, [need]);
     pub fn step(&mut self, a: u32, b: u32, reset: bool) -> Result<VoteAnswer, u32> {
         let mut answer = VoteAnswer::default();
         accepted(unsafe { scorve_vote_step(self, a, b, reset as u32, &mut answer) }, answer)
@@ -149,7 +150,7 @@ impl Vote {
 }
 
 impl Tuple {
-    constructors!(Tuple, scorve_tuple_from_word, scorve_tuple_new);
+    constructors!(Tuple, scorve_tuple_from_word, scorve_tuple_new, [votes, need]);
     pub fn step(&mut self, a: u32, b: u32) -> Result<TupleAnswer, u32> {
         let mut answer = TupleAnswer::default();
         accepted(unsafe { scorve_tuple_step(self, a, b, &mut answer) }, answer)
@@ -157,7 +158,7 @@ impl Tuple {
 }
 
 impl Reserve {
-    constructors!(Reserve, scorve_reserve_from_word, scorve_reserve_new);
+    constructors!(Reserve, scorve_reserve_from_word, scorve_reserve_new, [need]);
     pub fn step(&mut self, units: [u32; 4]) -> Result<ReserveAnswer, u32> {
         let mut answer = ReserveAnswer::default();
         let [a, b, c, d] = units;
@@ -165,26 +166,27 @@ impl Reserve {
     }
 }
 
-// A run, the same for each voter: what it reads, and what it writes.
+// A run, the same for each voter: its counts, what it reads, and what it writes.
 macro_rules! run {
-    ($name:ident, $call:ident, [$($unit:ident),*], [$($output:ident: $kind:ty),*]) => {
+    ($name:ident, $call:ident, [$($count:ident),*], [$($unit:ident),*], [$($output:ident: $kind:ty),*]) => {
         /// A whole trace from a fresh state. `sample` is the number of the sample with refusal 6, else 0.
-        pub fn $name(n: u32, need: u32, word: u32, $($unit: &[u32],)* $($output: &mut [$kind],)* sample: &mut u32)
-            -> Result<(), u32> {
+        pub fn $name(n: u32, $($count: u32,)* word: u32, $($unit: &[u32],)* $($output: &mut [$kind],)*
+                     sample: &mut u32) -> Result<(), u32> {
             let refusal = unsafe {
-                $call(n, need, word, $($unit.as_ptr(), $unit.len(),)* $($output.as_mut_ptr(), $output.len(),)* sample)
+                $call(n, $($count,)* word, $($unit.as_ptr(), $unit.len(),)*
+                      $($output.as_mut_ptr(), $output.len(),)* sample)
             };
             accepted(refusal, ())
         }
     };
 }
 
-run!(confirm_run, scorve_confirm_run, [samples], [words: u32, marks: u8, counts: u32]);
-run!(vote_run, scorve_vote_run, [a, b], [words: u32, marks: u8]);
-run!(tuple_run, scorve_tuple_run, [a, b], [words: u32, masks: u32, marks: u8]);
-run!(reserve_run, scorve_reserve_run, [a, b, c, d], [words: u32, marks: u8]);
+run!(confirm_run, scorve_confirm_run, [need], [samples], [words: u32, marks: u8, counts: u32]);
+run!(vote_run, scorve_vote_run, [need], [a, b], [words: u32, marks: u8]);
+run!(tuple_run, scorve_tuple_run, [votes, need], [a, b], [words: u32, masks: u32, marks: u8]);
+run!(reserve_run, scorve_reserve_run, [need], [a, b, c, d], [words: u32, marks: u8]);
 
-/// The count, the age bound and the quiet gap, from times in microseconds.
+/// Both counts, the age bound and the quiet gap, from times in microseconds.
 pub fn sizing_of(n: u32, least_gap: u32, greatest_gap: u32, delay: u32) -> Result<Sizing, u32> {
     let mut sizing = Sizing::default();
     accepted(unsafe { scorve_sizing_of(n, least_gap, greatest_gap, delay, &mut sizing) }, sizing)
@@ -245,18 +247,18 @@ mod tests {
         let (a, b) = ([2, 3, 3], [2, 1, 1]);
         assert_eq!(vote_run(2, 2, 0, &a, &b, &mut words, &mut marks, &mut sample), Ok(()));
         assert_eq!((words, marks, sample), ([2, 2, 2], [0, 1, 2], 0));
-        assert_eq!(tuple_run(2, 2, 2, &a, &b, &mut words, &mut masks, &mut marks, &mut sample), Ok(()));
+        assert_eq!(tuple_run(2, 2, 3, 2, &a, &b, &mut words, &mut masks, &mut marks, &mut sample), Ok(()));
         assert_eq!((words, masks, marks, sample), ([2, 2, 2], [0, 0, 2], [1, 1, 2], 0));
-        assert_eq!((Vote::new(2, 0), Tuple::new(2, 0)), (Err(1), Err(1)));
+        assert_eq!((Vote::new(2, 0), Tuple::new(2, 0, 1), Tuple::new(2, 1, 0)), (Err(1), Err(1), Err(1)));
         let mut vote = Vote::from_word(3, 4, 6).unwrap();
         assert_eq!(vote.step(5, 7, false), Ok(VoteAnswer { word: 6, mark: HELD }));
         assert_eq!(vote, Vote { n: 3, need: 4, word: 6, count: 1 });
         assert_eq!(vote.step(5, 7, true).map(|_| vote.count), Ok(0));
-        let (mut tuple, mut counts) = (Tuple::from_word(4, 2, 6).unwrap(), [0; MAX_WIDTH]);
+        let (mut tuple, mut counts) = (Tuple::from_word(4, 2, 3, 6).unwrap(), [0; MAX_WIDTH]);
         assert_eq!(tuple.step(5, 7), Ok(TupleAnswer { word: 6, mark: HELD, mask: 0 }));
         assert_eq!(tuple.step(8, 10), Ok(TupleAnswer { word: 6, mark: ALARM, mask: 2 }));
         counts[1] = 1;
-        assert_eq!(tuple, Tuple { n: 4, need: 2, input: 7, output: 6, count: 0, agreed: 10, counts });
+        assert_eq!(tuple, Tuple { votes: 2, n: 4, need: 3, input: 7, output: 6, count: 0, agreed: 10, counts });
     }
 
     #[test]
@@ -275,7 +277,7 @@ mod tests {
     #[test]
     fn others() {
         assert_eq!(version(), VERSION);
-        assert_eq!(sizing_of(3, 10, 12, 25), Ok(Sizing { count: 3, age: 133, quiet: 145 }));
+        assert_eq!(sizing_of(3, 10, 12, 25), Ok(Sizing { count: 3, votes: 4, age: 133, quiet: 145 }));
         assert_eq!(threshold_vote(&Readings { x1: 0.0, x2: 0.5, x3: 1.0, tolerance: 0.5 }), Ok(Some(0.5)));
         assert_eq!(threshold_vote(&Readings { x1: 1.0, x2: 2.0, x3: 3.0, tolerance: 0.5 }), Ok(None));
         // Two units, 1 sample, n 4, N 3, word 7; the columns start at 44, 48 and 52; time 11, samples 6 and 5.
