@@ -29,10 +29,20 @@ void call_vote_run(const struct side *side, const struct inputs *in, struct outp
   out->returned[0] = side->vote_run(in->n, in->need, in->word, IN(0), IN(1), WORDS(0), BYTES(1), &out->sample);
 }
 
+static void tuple_run(const struct side *side, uint32_t votes, const struct inputs *in, struct outputs *out)
+{
+  out->returned[0] = side->tuple_run(in->n, votes, in->need, in->word, IN(0), IN(1), WORDS(0), WORDS(1), BYTES(2),
+                                     &out->sample);
+}
+
 void call_tuple_run(const struct side *side, const struct inputs *in, struct outputs *out)
 {
-  out->returned[0] = side->tuple_run(in->n, in->need, in->word, IN(0), IN(1), WORDS(0), WORDS(1), BYTES(2),
-                                     &out->sample);
+  tuple_run(side, in->need, in, out);
+}
+
+void call_tuple_run_apart(const struct side *side, const struct inputs *in, struct outputs *out)
+{
+  tuple_run(side, in->need + 1, in, out);
 }
 
 void call_reserve_run(const struct side *side, const struct inputs *in, struct outputs *out)
@@ -61,13 +71,24 @@ void call_vote_steps(const struct side *side, const struct inputs *in, struct ou
   }
 }
 
-void call_tuple_steps(const struct side *side, const struct inputs *in, struct outputs *out)
+static void tuple_steps(const struct side *side, uint32_t votes, const struct inputs *in, struct outputs *out)
 {
   __typeof__(side->tuple_step) step = side->tuple_step;
-  out->tuple = (scorve_tuple){.n = in->n, .need = in->need, .input = in->word, .output = in->word, .agreed = in->word};
+  out->tuple = (scorve_tuple){.votes = votes, .n = in->n, .need = in->need, .input = in->word, .output = in->word,
+                              .agreed = in->word};
   for (size_t i = 0; i < SAMPLES; i++) {
     out->returned[i] = step(&out->tuple, in->unit[0][i], in->unit[1][i], &out->tuple_answers[i]);
   }
+}
+
+void call_tuple_steps(const struct side *side, const struct inputs *in, struct outputs *out)
+{
+  tuple_steps(side, in->need, in, out);
+}
+
+void call_tuple_steps_apart(const struct side *side, const struct inputs *in, struct outputs *out)
+{
+  tuple_steps(side, in->need + 1, in, out);
 }
 
 void call_reserve_steps(const struct side *side, const struct inputs *in, struct outputs *out)

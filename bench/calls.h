@@ -66,6 +66,7 @@ typedef void call_function(const struct side *side, const struct inputs *in, str
 
 call_function call_confirm_run, call_vote_run, call_tuple_run, call_reserve_run;
 call_function call_confirm_steps, call_vote_steps, call_tuple_steps, call_reserve_steps;
+call_function call_tuple_run_apart, call_tuple_steps_apart; /* the voters' count is one more than need */
 call_function call_threshold_votes, call_reader, call_listing;
 call_function call_nothing;
 

@@ -11,9 +11,14 @@ static inline uint32_t outside(uint32_t n)
   return n < SCORVE_MAX_WIDTH ? ~UINT32_C(0) << n : 0;
 }
 
+static inline int bad_count(uint32_t need)
+{
+  return need == 0 || need > SCORVE_MAX_COUNT;
+}
+
 static inline uint32_t check_limits(uint32_t n, uint32_t need)
 {
-  if (need == 0 || need > SCORVE_MAX_COUNT) return SCORVE_BAD_COUNT;
+  if (bad_count(need)) return SCORVE_BAD_COUNT;
   if (n == 0 || n > SCORVE_MAX_WIDTH) return SCORVE_BAD_WIDTH;
   return SCORVE_OK;
 }
@@ -53,15 +58,15 @@ static inline uint32_t vote(uint32_t need, uint32_t *agreed, uint32_t *count, ui
   return SCORVE_ALARM;
 }
 
-static inline scorve_tuple fresh_tuple(uint32_t n, uint32_t need, uint32_t word)
+static inline scorve_tuple fresh_tuple(uint32_t n, uint32_t votes, uint32_t need, uint32_t word)
 {
-  return (scorve_tuple){.n = n, .need = need, .input = word, .output = word, .agreed = word};
+  return (scorve_tuple){.votes = votes, .n = n, .need = need, .input = word, .output = word, .agreed = word};
 }
 
 /* Every signal's vote takes a step; the mask of alarms is returned. */
 static inline uint32_t vote_signals(scorve_tuple *state, uint32_t a, uint32_t b)
 {
-  const uint32_t n = state->n, last = state->need - 1, differ = a ^ b;
+  const uint32_t n = state->n, last = state->votes - 1, differ = a ^ b;
   uint32_t mask = 0;
   for (uint32_t i = 0; i < n; i++) {
     if (!(differ >> i & 1)) state->counts[i] = 0;

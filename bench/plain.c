@@ -110,13 +110,14 @@ uint32_t plain_vote_run(uint32_t n, uint32_t need, uint32_t word,
 static int counts_fit(const scorve_tuple *state)
 {
   for (uint32_t i = 0; i < SCORVE_MAX_WIDTH; i++) {
-    if (state->counts[i] >= (i < state->n ? state->need : 1)) return 0;
+    if (state->counts[i] >= (i < state->n ? state->votes : 1)) return 0;
   }
   return 1;
 }
 
 uint32_t plain_tuple_step(scorve_tuple *state, uint32_t a, uint32_t b, scorve_tuple_answer *answer)
 {
+  if (bad_count(state->votes)) return SCORVE_BAD_COUNT;
   const uint32_t refusal = check_limits(state->n, state->need);
   if (refusal) return refusal;
   const uint32_t high = outside(state->n);
@@ -128,7 +129,7 @@ uint32_t plain_tuple_step(scorve_tuple *state, uint32_t a, uint32_t b, scorve_tu
   return SCORVE_OK;
 }
 
-uint32_t plain_tuple_run(uint32_t n, uint32_t need, uint32_t word,
+uint32_t plain_tuple_run(uint32_t n, uint32_t votes, uint32_t need, uint32_t word,
                          const uint32_t *a, size_t a_len,
                          const uint32_t *b, size_t b_len,
                          uint32_t *words, size_t words_len,
@@ -137,11 +138,12 @@ uint32_t plain_tuple_run(uint32_t n, uint32_t need, uint32_t word,
                          uint32_t *sample)
 {
   *sample = 0;
+  if (bad_count(votes)) return SCORVE_BAD_COUNT;
   const int same = b_len == a_len && words_len == a_len && masks_len == a_len && marks_len == a_len;
   uint32_t refusal = check_run(n, need, word, longer(a_len, b_len), same);
   if (!refusal) refusal = check_samples(n, a, b, a, b, a_len, sample);
   if (refusal) return refusal;
-  scorve_tuple state = fresh_tuple(n, need, word);
+  scorve_tuple state = fresh_tuple(n, votes, need, word);
   for (size_t i = 0; i < a_len; i++) {
     marks[i] = (uint8_t)tuple_vote(&state, a[i], b[i], &masks[i]);
     words[i] = state.output;

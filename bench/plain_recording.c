@@ -165,7 +165,7 @@ static uint8_t *put_confirm(uint8_t *at, const uint8_t *bytes, const scorve_head
 static uint8_t *put_pair(uint8_t *at, const uint8_t *bytes, const scorve_header *header)
 {
   const uint8_t *a = column(bytes, header->samples, 1), *b = column(bytes, header->samples, 2);
-  scorve_tuple state = fresh_tuple(header->n, header->need, header->word);
+  scorve_tuple state = fresh_tuple(header->n, header->need, header->need, header->word);
   at = put_first_line(at, "pair ", header);
   for (uint32_t i = 0; i < header->samples; i++) {
     uint32_t mask;
