@@ -19,7 +19,7 @@ def fresh(n, N, word):
 
 def from_word(n, N, word):
     """The constructor with an initial word."""
-    number = rules.refuse_constructor(n, N, word)
+    number = rules.refuse_constructor(n, [N], word)
     if number != 0:
         return Made(number, fresh(1, 1, 0))
     return Made(0, fresh(n, N, word))
@@ -39,7 +39,7 @@ def damaged(state):
 
 def step(state, x):
     """One step on any state."""
-    number = rules.refuse_step(state.n, state.N, [x])
+    number = rules.refuse_step(state.n, [state.N], [x])
     if number == 0 and damaged(state):
         number = 7
     if number != 0:
@@ -61,7 +61,7 @@ def clauses(state, x):
 
 def run(n, N, word, samples, words, marks, counts):
     """A run equals its steps, taken from a fresh state."""
-    number, sample = rules.refuse_run(n, N, word, [samples], [words, marks, counts])
+    number, sample = rules.refuse_run(n, [N], word, [samples], [words, marks, counts])
     if number != 0:
         return Run(number, sample, words, marks, counts)
     state = fresh(n, N, word)

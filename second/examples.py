@@ -1,4 +1,4 @@
-"""The settled examples of document 01, each with the answer its text gives.
+"""The settled examples of document 01, and the example of T-02 in document 02, each with the answer its text gives.
 
 Numbers of an answer of which the example says nothing follow from the clauses.
 Run as a program, it checks every example.
@@ -29,13 +29,13 @@ def readings(*values):
 
 EXAMPLES = [
     Example('n 1, Tm 10, TM 12, D 0: N 1, age 12, quiet gap 24',
-            'sizing', 'sizing 1 10 12 0', '0 1 12 24'),
-    Example('D 9: N 1', 'sizing', 'sizing 1 10 12 9', '0 1 21 33'),
-    Example('D 10: N 2', 'sizing', 'sizing 1 10 12 10', '0 2 34 46'),
+            'sizing', 'sizing 1 10 12 0', '0 1 1 12 24'),
+    Example('D 9: N 1', 'sizing', 'sizing 1 10 12 9', '0 1 2 21 33'),
+    Example('D 10: N 2', 'sizing', 'sizing 1 10 12 10', '0 2 2 34 46'),
     Example('n 3, Tm 10, TM 12, D 25: N 3, age 133, quiet gap 145',
-            'sizing', 'sizing 3 10 12 25', '0 3 133 145'),
-    Example('Tm 1, TM 1, D 999: N 1,000', 'sizing', 'sizing 1 1 1 999', '0 1000 1999 2000'),
-    Example('Tm 1, TM 1, D 1,000: refusal 10', 'sizing', 'sizing 1 1 1 1000', '10 0 0 0'),
+            'sizing', 'sizing 3 10 12 25', '0 3 4 133 145'),
+    Example('Tm 1, TM 1, D 999: N 1,000', 'sizing', 'sizing 1 1 1 999', '0 1000 1000 1999 2000'),
+    Example('Tm 1, TM 1, D 1,000: refusal 10', 'sizing', 'sizing 1 1 1 1000', '10 0 0 0 0'),
     Example('The listing above', 'listing', lines.listing_line(LISTED),
             '%d %s' % (len(LISTING), LISTING.replace('\n', '|'))),
     Example('The listing above, its recording read', 'recording', lines.read_line(LISTED),
@@ -80,15 +80,16 @@ EXAMPLES = [
 def width_examples():
     """n 32 accepts every word; n 31 refuses 80000000 hex."""
     refused = {'confirm': '5 1 1 0 0 0', 'vote': '5 1 1 0 0', 'reserve': '5 0 1 1 0 0',
-               'tuple': '5 1 1 0 0 0 0' + 32 * ' 0'}
+               'tuple': '5 1 1 1 0 0 0 0' + 32 * ' 0'}
     made = {'confirm': '0 32 1 {0} {0} 0', 'vote': '0 32 1 {0} 0', 'reserve': '0 0 32 1 {0} 0',
-            'tuple': '0 32 1 {0} {0} 0 {0}' + 32 * ' 0'}
+            'tuple': '0 1 32 1 {0} {0} 0 {0}' + 32 * ' 0'}
     for room in ('confirm', 'vote', 'tuple', 'reserve'):
+        name, counts = room + '.from_word', lines.counts_of(room, 1)
         for word in (2147483648, 4294967295):
             yield Example('n 32 accepts every word', room,
-                          '%s.from_word 32 1 %d' % (room, word), made[room].format(word))
+                          lines.line(name, [32] + counts + [word]), made[room].format(word))
         yield Example('n 31 refuses 80000000 hex', room,
-                      '%s.from_word 31 1 2147483648' % room, refused[room])
+                      lines.line(name, [31] + counts + [2147483648]), refused[room])
 
 
 def length_examples():
@@ -105,13 +106,39 @@ def length_examples():
 
 EXAMPLES += list(width_examples()) + list(length_examples())
 
+# T-02, and what follows from it. A sizing answers count, votes, age bound, quiet gap; a tuple vote has V, then N.
+PLACES = 31 * ' 0'  # the counts of signals 1 to 31, of which there are none
+REQUESTED = [
+    Example('Tm 10 and D 9: N 1, and 2 for votes', 'sizing', 'sizing 1 10 12 9', '0 1 2 21 33'),
+    Example('Tm 2 and D 1,999: N 1,000, but 1,001 for votes: refusal 10', 'sizing', 'sizing 1 2 3 1999', '10 0 0 0 0'),
+    Example('Tm 2 and D 1,998: 1,000 for both', 'sizing', 'sizing 1 2 3 1998', '0 1000 1000 4998 5001'),
+    Example('Tm 2 and D 1,997: N 999, and 1,000 for votes', 'sizing', 'sizing 1 2 3 1997', '0 999 1000 4994 4997'),
+    Example('With N 1 a single disagreement alarms', 'tuple',
+            'tuple.step 1 1 1 0 0 0 0 0' + PLACES + ' 1 0', '0 0 1 2 1 1 1 0 0 0 0 0' + PLACES),
+    Example('With 2 for votes it does not', 'tuple',
+            'tuple.step 2 1 1 0 0 0 0 0' + PLACES + ' 1 0', '0 0 0 0 2 1 1 0 0 0 0 1' + PLACES),
+    Example('A second one in a row alarms', 'tuple',
+            'tuple.step 2 1 1 0 0 0 0 1' + PLACES + ' 1 0', '0 0 1 2 2 1 1 0 0 0 0 1' + PLACES),
+    Example('Two healthy units, one sample inside the delay, N 1', 'tuple',
+            'tuple.run 1 1 1 0 6 0*2 1*4 6 0*3 1*3 6 3735928559 6 4277009102 6 170',
+            '0 0 6 0*4 1*2 6 0*2 1 0*3 6 0*2 2 1 0*2'),
+    Example('The same with 2 for votes: no alarm', 'tuple',
+            'tuple.run 1 2 1 0 6 0*2 1*4 6 0*3 1*3 6 3735928559 6 4277009102 6 170',
+            '0 0 6 0*4 1*2 6 0*6 6 0*3 1 0*2'),
+]
+
 
 def calls(room):
-    """The calls of a room's examples."""
+    """The calls of a room's examples of document 01."""
     return [example.call for example in EXAMPLES if example.room == room]
 
 
+def requested(room):
+    """The calls of a room's examples of document 02."""
+    return [example.call for example in REQUESTED if example.room == room]
+
+
 if __name__ == '__main__':
-    for one in EXAMPLES:
+    for one in EXAMPLES + REQUESTED:
         assert protocol.answer(one.call) == one.answer, one.name
-    print('%d settled examples hold' % len(EXAMPLES))
+    print('%d settled examples hold, and %d of change requests' % (len(EXAMPLES), len(REQUESTED)))

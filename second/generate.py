@@ -3,6 +3,7 @@
 from collections import namedtuple
 
 import examples
+import groups_counts
 import groups_numbers
 import groups_recordings
 import groups_runs
@@ -10,7 +11,7 @@ import groups_steps
 import groups_tuple
 import groups_words
 from chance import numbers
-from lines import line, listing_line, read_line
+from lines import line, listing_line, read_line, tuple_step
 
 # error: the number of the error of document 01 that the call tells apart, or 0
 Case = namedtuple('Case', 'call error')
@@ -77,7 +78,7 @@ def tuple_room():
     # confirmed at this very sample.
     for N, before, count in ((1, 0, 0), (1, 2, 0), (2, 2, 0), (2, 2, 1), (3, 0, 2), (1000, 2, 998)):
         counts = [N - 1] + [0] * 31
-        room += cases([line('tuple.step', [2, N, before, 0, count, 2] + counts + [3, 2])], 5)
+        room += cases([tuple_step([2, N, before, 0, count, 2] + counts + [3, 2])], 5)
     # Constructors; steps in sequence; damaged and unreached states; every place; edges.
     room += cases(groups_steps.constructors('tuple', chance))
     room += cases(groups_steps.sequences('tuple', chance))
@@ -88,7 +89,9 @@ def tuple_room():
     # Runs.
     room += cases(groups_runs.runs('tuple', chance))
     # T-03, the disagreement as one word: steps and runs of every width.
-    return room + cases(groups_words.words(chance))
+    room += cases(groups_words.words(chance))
+    # T-02, a count for the voters and one for confirmation: its example, then its groups.
+    return room + cases(examples.requested('tuple')) + cases(groups_counts.tuples(numbers(109)))
 
 
 def reserve_room():
@@ -116,10 +119,12 @@ def reserve_room():
 def sizing_room():
     chance = numbers(105)
     # The settled examples; the limits; products near the limits; random values.
-    return cases(examples.calls('sizing')
+    room = cases(examples.calls('sizing')
                  + list(groups_numbers.sizing_limits())
                  + list(groups_numbers.sizing_products(chance))
                  + list(groups_numbers.sizing_random(chance)))
+    # T-02, a count for votes and one for confirmation: its example, then its groups.
+    return room + cases(examples.requested('sizing')) + cases(groups_counts.sizings(numbers(110)))
 
 
 def threshold_room():

@@ -1,10 +1,13 @@
-"""Groups of runs over a lent trace. X is one of confirm, vote, tuple, reserve."""
+"""Groups of runs over a lent trace. X is one of confirm, vote, tuple, reserve.
+
+In the runs of the tuple vote one N serves for both counts; groups_counts.py has the others.
+"""
 
 from itertools import combinations
 
 from chance import below, walk
 from groups_steps import COUNTS, WIDTHS
-from lines import OUTPUTS, UNITS, lent_for, run_line
+from lines import OUTPUTS, UNITS, counts_of, lent_for, run_call, run_line
 
 
 def lengths(kind, chance):
@@ -76,10 +79,9 @@ def outside_words(kind, chance):
                 yield run_line(kind, n, 2, word, columns, lent_for(kind, length, chance))
 
 
-def refused_run(kind, numbers, chance):
-    """A run that gives cause for each of these refusal numbers."""
+def caused_run(kind, counts, numbers, chance):
+    """A run that gives cause for each of these refusal numbers, 2 to 6, beside what its counts give cause for."""
     length = 2049 if 3 in numbers else 5
-    N = below(chance, 2) * 1001 if 1 in numbers else 2
     n = below(chance, 2) * 33 if 2 in numbers else 3
     word = 2 ** 31 if 5 in numbers else 5
     columns = [[1] * length for _ in range(UNITS[kind])]
@@ -88,7 +90,13 @@ def refused_run(kind, numbers, chance):
     lent = lent_for(kind, length, chance)
     if 4 in numbers:
         lent[0] = (length - 1, lent[0][1])
-    return run_line(kind, n, N, word, columns, lent)
+    return run_call(kind, [n] + counts + [word], columns, lent)
+
+
+def refused_run(kind, numbers, chance):
+    """A run that gives cause for each of these refusal numbers."""
+    N = below(chance, 2) * 1001 if 1 in numbers else 2
+    return caused_run(kind, counts_of(kind, N), numbers, chance)
 
 
 def refusals(kind, chance):

@@ -1,10 +1,13 @@
-"""Groups of constructor and step calls. X is one of confirm, vote, tuple, reserve."""
+"""Groups of constructor and step calls. X is one of confirm, vote, tuple, reserve.
+
+In the calls of the tuple vote one N serves for both counts; groups_counts.py has the others.
+"""
 
 from itertools import combinations, product
 
 import protocol
 from chance import below, pick, walk
-from lines import UNITS, line
+from lines import UNITS, counts_of, line
 
 MOST = 4294967295
 WIDTHS = [0, 1, 2, 3, 31, 32, 33, MOST]
@@ -23,13 +26,13 @@ def constructors(kind, chance):
     """Every width with every count, words at the edge of the width; then random ones."""
     for n in WIDTHS:
         for N in COUNTS:
-            yield line(kind + '.new', [n, N])
+            yield line(kind + '.new', [n] + counts_of(kind, N))
             for word in edge_words(n):
-                yield line(kind + '.from_word', [n, N, word])
+                yield line(kind + '.from_word', [n] + counts_of(kind, N) + [word])
     for _ in range(60):
         n, N = below(chance, 36), below(chance, 1100)
-        yield line(kind + '.new', [n, N])
-        yield line(kind + '.from_word', [n, N, next(chance) % 2 ** (n + 1) % 2 ** 32])
+        yield line(kind + '.new', [n] + counts_of(kind, N))
+        yield line(kind + '.from_word', [n] + counts_of(kind, N) + [next(chance) % 2 ** (n + 1) % 2 ** 32])
 
 
 def state_after(call):
@@ -40,9 +43,9 @@ def state_after(call):
     return ' '.join(protocol.answer(call).split(' ')[before:])
 
 
-def sequence(kind, n, N, word, length, chance):
+def sequence(kind, n, counts, word, length, chance):
     """A constructor, then steps, each from the state that the call before it left."""
-    call = line(kind + '.from_word', [n, N, word])
+    call = line(kind + '.from_word', [n] + counts + [word])
     yield call
     for samples in zip(*walk(chance, n, UNITS[kind], length, 3)):
         inputs = list(samples)
@@ -57,9 +60,10 @@ def sequences(kind, chance):
     for n in (1, 2, 3):
         for N in (1, 2, 3, 4):
             for _ in range(2):
-                yield from sequence(kind, n, N, below(chance, 2 ** n), 24, chance)
+                yield from sequence(kind, n, counts_of(kind, N), below(chance, 2 ** n), 24, chance)
     for n in (8, 17, 31, 32):
-        yield from sequence(kind, n, 1 + below(chance, 4), below(chance, 2 ** n), 24, chance)
+        counts = counts_of(kind, 1 + below(chance, 4))
+        yield from sequence(kind, n, counts, below(chance, 2 ** n), 24, chance)
 
 
 def replaced(good, damages):
@@ -87,10 +91,9 @@ def damages(n, N, places):
             yield place, value
 
 
-def damaged(kind, n, N, good, places):
-    """Step calls from a good one, damaged in every field, alone and in pairs."""
-    for values in [good] + list(replaced(good, list(damages(n, N, places)))):
-        yield line(kind + '.step', values)
+def damaged(n, N, good, places):
+    """The numbers of a good step, then damaged in every field, alone and in pairs."""
+    return [good] + list(replaced(good, list(damages(n, N, places))))
 
 
 def damaged_steps(kind, chance):
@@ -100,7 +103,7 @@ def damaged_steps(kind, chance):
               'reserve': 'phase n N word count word word word word'}[kind].split()
     for n, N in ((1, 1), (3, 3), (31, 1000), (32, 2)):
         good = [{'n': n, 'N': N, 'word': below(chance, 2 ** n)}.get(what, 0) for what in places]
-        yield from damaged(kind, n, N, good, places)
+        yield from (line(kind + '.step', values) for values in damaged(n, N, good, places))
 
 
 def any_states(kind, chance):
@@ -123,7 +126,7 @@ def edges_of_width(kind, inputs):
     for n in WIDTHS:
         for N in COUNTS:
             state = {'confirm': [n, N, 0, 0, 0], 'vote': [n, N, 0, 0],
-                     'tuple': [n, N, 0, 0, 0, 0] + [0] * 32, 'reserve': [2, n, N, 0, 0]}[kind]
+                     'tuple': [N, n, N, 0, 0, 0, 0] + [0] * 32, 'reserve': [2, n, N, 0, 0]}[kind]
             for word in edge_words(n):
                 reset = [0] if kind == 'vote' else []
                 yield line(kind + '.step', state + [0] * (inputs - 1) + [word] + reset)

@@ -1,8 +1,11 @@
-"""Groups of step calls of the tuple vote, whose state has a place for each of 32 signals."""
+"""Groups of step calls of the tuple vote, whose state has a place for each of 32 signals.
+
+One N serves for both counts; groups_counts.py has the others.
+"""
 
 from chance import below, pick
 from groups_steps import damaged
-from lines import line
+from lines import tuple_step
 
 
 def damaged_steps(chance):
@@ -15,7 +18,7 @@ def damaged_steps(chance):
         kinds[0] = kinds[n - 1] = 'count'
         kinds[n] = kinds[31] = 'above'
         places = ['n', 'N', 'word', 'word', 'count', 'word'] + kinds + ['word', 'word']
-        yield from damaged('tuple', n, N, good, places)
+        yield from (tuple_step(values) for values in damaged(n, N, good, places))
 
 
 def every_place(chance):
@@ -26,8 +29,8 @@ def every_place(chance):
             for count in (N - 1, N):
                 counts = [0] * 32
                 counts[place] = count
-                yield line('tuple.step', [n, N, word, 0, 0, word] + counts + [word, 0])
-            yield line('tuple.step', [n, N, 0, 0, N - 1, 2 ** place] + [0] * 32 + [0, 0])
+                yield tuple_step([n, N, word, 0, 0, word] + counts + [word, 0])
+            yield tuple_step([n, N, 0, 0, N - 1, 2 ** place] + [0] * 32 + [0, 0])
 
 
 def any_states(chance):
@@ -40,4 +43,4 @@ def any_states(chance):
         b = pick(chance, [a, a, below(chance, 2 ** n), (a + 1) % 2 ** n])
         before, shown = pick(chance, [a, a, below(chance, 2 ** n)]), below(chance, 2 ** n)
         count = pick(chance, [0, N - 1])
-        yield line('tuple.step', [n, N, before, shown, count, agreed] + counts + [a, b])
+        yield tuple_step([n, N, before, shown, count, agreed] + counts + [a, b])

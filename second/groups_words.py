@@ -2,16 +2,16 @@
 
 No answer changes with it. But a vote that works on whole words can go wrong at one width, at one place of the word,
 or for a signal that alarms beside others that hold or agree. So each group has every width, and the steps of a width
-bring every place into every situation of their group.
+bring every place into every situation of their group. One N serves for both counts; groups_counts.py has the others.
 """
 
 from chance import below, pick
-from lines import lent_for, line, run_line
+from lines import lent_for, run_line, tuple_step
 from rules import word_of
 
 EVERY_WIDTH = range(1, 33)
 MOST = 4294967295
-AGREED, COUNTS, SAMPLES = 5, 6, 38  # where these stand among the numbers of a step: one, 32, two
+AGREED, COUNTS, SAMPLES = 5, 6, 38  # where these stand among the numbers of a step after V: one, 32, two
 
 # The situation of a signal in a step: which of the two units depart from its agreed bit, and its count. If one unit
 # departs, the count N-1 alarms and a lower one holds. If none or both do, they agree, whatever the count.
@@ -49,8 +49,8 @@ def turned(n, situations, chance):
 def step_line(n, N, confirmation, signals):
     """A call of a step. confirmation: previous input, previous output, count."""
     agreed, counts, a, b = zip(*signals)
-    return line('tuple.step', [n, N] + confirmation + [word_of(agreed)] + list(counts) + [0] * (32 - n)
-                + [word_of(a), word_of(b)])
+    return tuple_step([n, N] + confirmation + [word_of(agreed)] + list(counts) + [0] * (32 - n)
+                      + [word_of(a), word_of(b)])
 
 
 def voted(signals):
@@ -190,7 +190,7 @@ def each_its_own(chance):
 
 
 def good_step(n, N, apart, chance):
-    """The numbers of a good step in which these signals disagree."""
+    """The numbers of a good step, without V, in which these signals disagree."""
     common, first, agreed, before, shown = [below(chance, 2 ** n) for _ in range(5)]
     counts = [below(chance, N) for _ in range(n)] + [0] * (32 - n)
     return [n, N, before, shown, below(chance, N), agreed] + counts + list(parted(common, apart, first))
@@ -214,7 +214,7 @@ def counts_of_N(chance):
             apart = [0, every, every - 2 ** place, 2 ** place][(n + turn) % 4]
             values = good_step(n, N, apart, chance)
             values[COUNTS + place] = pick(chance, [N, N, N, N + 1, 65536, MOST])
-            yield line('tuple.step', values)
+            yield tuple_step(values)
 
 
 def counts_above(chance):
@@ -224,7 +224,7 @@ def counts_above(chance):
             N = pick(chance, [2, 3, 1000])
             values = good_step(n, N, pick(chance, [0, below(chance, 2 ** n), 2 ** n - 1]), chance)
             values[COUNTS + place] = pick(chance, [1, 1, N - 1])
-            yield line('tuple.step', values)
+            yield tuple_step(values)
 
 
 def bits_above(chance):
@@ -235,7 +235,7 @@ def bits_above(chance):
             bit = 2 ** pick(chance, [n, 31, n + below(chance, 32 - n)])
             for field in fields:
                 values[field] += bit
-            yield line('tuple.step', values)
+            yield tuple_step(values)
 
 
 def bits_above_in_runs(chance):

@@ -18,6 +18,16 @@ def line(name, values):
     return ' '.join([name] + ['%d' % value for value in values])
 
 
+def counts_of(kind, N):
+    """The counts of a call in which N serves for all: the tuple vote has two, V and N (T-02)."""
+    return [N, N] if kind == 'tuple' else [N]
+
+
+def tuple_step(values):
+    """A step of the tuple vote in which N, the second of these values, serves for both counts: V stands in front."""
+    return line('tuple.step', [values[1]] + values)
+
+
 def lent_for(kind, length, chance):
     """(length, fill) for each output slice of a run."""
     return [(length, pick(chance, MARK_FILLS if output == 'marks' else WORD_FILLS))
@@ -29,10 +39,15 @@ def lent_text(lent):
     return ' '.join('%d %d' % one for one in lent)
 
 
-def run_line(kind, n, N, word, columns, lent):
-    """A call of a run."""
+def run_call(kind, plain, columns, lent):
+    """A call of a run: the plain numbers, the input columns, the output slices."""
     lists = ' '.join(show_slice(column) for column in columns)
-    return '%s.run %d %d %d %s %s' % (kind, n, N, word, lists, lent_text(lent))
+    return '%s %s %s' % (line(kind + '.run', plain), lists, lent_text(lent))
+
+
+def run_line(kind, n, N, word, columns, lent):
+    """A call of a run in which N serves for all counts."""
+    return run_call(kind, [n] + counts_of(kind, N) + [word], columns, lent)
 
 
 def fields(units, samples, n, N, word):

@@ -27,7 +27,8 @@ def confirm_lines(header, samples):
 
 def pair_lines(header, a, b):
     """Two take the tuple vote; the last field is the alarm mask."""
-    state = tuple_vote.fresh(header.n, header.N, header.word)
+    # T-02: the recording's single N serves for both counts, as before.
+    state = tuple_vote.fresh(header.n, header.N, header.N, header.word)
     for number, samples in enumerate(zip(a, b)):
         answer = tuple_vote.step(state, *samples)
         state = answer.state

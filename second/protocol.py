@@ -85,8 +85,8 @@ def vote_state(tokens):
 
 
 def tuple_state(tokens):
-    confirmation, agreed = confirm_state(tokens), number(tokens)
-    return tuple_vote.State(confirmation, agreed, tuple([number(tokens) for _ in range(32)]))
+    V, confirmation, agreed = number(tokens), confirm_state(tokens), number(tokens)
+    return tuple_vote.State(V, confirmation, agreed, tuple([number(tokens) for _ in range(32)]))
 
 
 def reserve_state(tokens):
@@ -102,10 +102,10 @@ CALLS = {
     'vote.from_word': Call([number] * 3, vote.from_word),
     'vote.step': Call([vote_state, number, number, flag], vote.step),
     'vote.run': Call([number] * 3 + [filled] * 2 + [lent] * 2, vote.run),
-    'tuple.new': Call([number] * 2, tuple_vote.new),
-    'tuple.from_word': Call([number] * 3, tuple_vote.from_word),
+    'tuple.new': Call([number] * 3, tuple_vote.new),
+    'tuple.from_word': Call([number] * 4, tuple_vote.from_word),
     'tuple.step': Call([tuple_state, number, number], tuple_vote.step),
-    'tuple.run': Call([number] * 3 + [filled] * 2 + [lent] * 3, tuple_vote.run),
+    'tuple.run': Call([number] * 4 + [filled] * 2 + [lent] * 3, tuple_vote.run),
     'reserve.new': Call([number] * 2, reserve.new),
     'reserve.from_word': Call([number] * 3, reserve.from_word),
     'reserve.step': Call([reserve_state] + [number] * 4, reserve.step),

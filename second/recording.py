@@ -57,7 +57,7 @@ def refuse(data, lent):
     if len(data) != HEADER_LENGTH + 4 * header.samples * (1 + header.units):
         return 12, 0
     # Then 1, 2, 5.
-    number = rules.refuse_constructor(header.n, header.N, header.word)
+    number = rules.refuse_constructor(header.n, [header.N], header.word)
     if number != 0:
         return number, 0
     # Then 6. Times are carried and not judged.

@@ -20,7 +20,7 @@ def fresh(n, N, word):
 
 def from_word(n, N, word):
     """The constructor with an initial word."""
-    number = rules.refuse_constructor(n, N, word)
+    number = rules.refuse_constructor(n, [N], word)
     if number != 0:
         return Made(number, fresh(1, 1, 0))
     return Made(0, fresh(n, N, word))
@@ -33,7 +33,7 @@ def new(n, N):
 
 def step(state, a, b, c, d):
     """One step on any state. The samples of all four units must be inside the width."""
-    number = rules.refuse_step(state.vote.n, state.vote.N, [a, b, c, d])
+    number = rules.refuse_step(state.vote.n, [state.vote.N], [a, b, c, d])
     if number == 0 and vote.damaged(state.vote):
         number = 7
     if number != 0:
@@ -56,7 +56,7 @@ def clauses(state, a, b, c, d):
 
 def run(n, N, word, a, b, c, d, words, marks):
     """A run equals its steps, taken from a fresh state."""
-    number, sample = rules.refuse_run(n, N, word, [a, b, c, d], [words, marks])
+    number, sample = rules.refuse_run(n, [N], word, [a, b, c, d], [words, marks])
     if number != 0:
         return Run(number, sample, words, marks)
     state = fresh(n, N, word)

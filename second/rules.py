@@ -1,6 +1,7 @@
 """Limits and refusal tests.
 
-Document 01, 'What the library covers' and 'Refusal numbers'.
+Document 01, 'What the library covers' and 'Refusal numbers'. The tests of a call take all its counts as one list:
+the tuple vote has two (T-02 of document 02), every other call has one.
 """
 
 GREATEST_WIDTH = 32    # "n is 1 to 32"
@@ -10,9 +11,9 @@ GREATEST_TRACE = 2048  # "A trace has 0 to 2,048 samples"
 NO_MARK = 255          # the call protocol's mark byte of a refused step
 
 
-def wrong_count(N):
-    """Number 1: N is 0 or above 1,000."""
-    return N == 0 or N > GREATEST_COUNT
+def wrong_count(counts):
+    """Number 1: N is 0 or above 1,000. T-02: it covers both counts of a tuple vote."""
+    return any(N == 0 or N > GREATEST_COUNT for N in counts)
 
 
 def wrong_width(n):
@@ -43,9 +44,9 @@ def first_outside(columns, n):
     return None
 
 
-def refuse_constructor(n, N, word):
+def refuse_constructor(n, counts, word):
     """The lowest of 1, 2 and 5 that applies, or 0."""
-    if wrong_count(N):
+    if wrong_count(counts):
         return 1
     if wrong_width(n):
         return 2
@@ -54,13 +55,13 @@ def refuse_constructor(n, N, word):
     return 0
 
 
-def refuse_step(n, N, samples):
+def refuse_step(n, counts, samples):
     """The lowest of 1, 2 and 6 that applies to a step, or 0.
 
     "A state carries its n and N, so 1 and 2 apply to a step too."
     Number 7 is tested after this, beside the state it looks at.
     """
-    if wrong_count(N):
+    if wrong_count(counts):
         return 1
     if wrong_width(n):
         return 2
@@ -69,12 +70,12 @@ def refuse_step(n, N, samples):
     return 0
 
 
-def refuse_run(n, N, word, columns, lent):
+def refuse_run(n, counts, word, columns, lent):
     """The lowest number that applies to a run, with its sample number; or 0, 0.
 
     The trace is the input columns; the lent slices are these and the outputs.
     """
-    if wrong_count(N):
+    if wrong_count(counts):
         return 1, 0
     if wrong_width(n):
         return 2, 0

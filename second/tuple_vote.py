@@ -1,4 +1,8 @@
-"""Tuple vote. Document 01, 'Tuple vote'; document 000, definition 15."""
+"""Tuple vote. Document 01, 'Tuple vote'; document 000, definition 15; T-02 of document 02.
+
+T-02: "the tuple vote keeps one for its voters and one for its confirmation". V is the voters' count, the same for
+every signal; N is the confirmation's. Neither need be the greater one.
+"""
 
 from collections import namedtuple
 
@@ -8,44 +12,45 @@ import vote
 
 CONFIRMED, HELD, ALARM = 0, 1, 2  # the mark byte
 
-# agreed: the voters' last agreed bits as one word; counts: 32 places, one for each signal
-State = namedtuple('State', 'confirmation agreed counts')
+# confirmation: its state, with n and N; agreed: the voters' last agreed bits as one word; counts: 32 places, one for
+# each signal
+State = namedtuple('State', 'V confirmation agreed counts')
 Made = namedtuple('Made', 'number state')
 Answer = namedtuple('Answer', 'number word mask mark state')
 Run = namedtuple('Run', 'number sample words masks marks')
 
 
-def fresh(n, N, word):
-    """Each signal has a vote of its own, with the same N, from its bit of the initial word."""
-    return State(confirm.fresh(n, N, word), word, (0,) * 32)
+def fresh(n, V, N, word):
+    """Each signal has a vote of its own, with the same V, from its bit of the initial word."""
+    return State(V, confirm.fresh(n, N, word), word, (0,) * 32)
 
 
-def from_word(n, N, word):
-    """The constructor with an initial word."""
-    number = rules.refuse_constructor(n, N, word)
+def from_word(n, V, N, word):
+    """The constructor with an initial word. Number 1 covers both counts."""
+    number = rules.refuse_constructor(n, [V, N], word)
     if number != 0:
-        return Made(number, fresh(1, 1, 0))
-    return Made(0, fresh(n, N, word))
+        return Made(number, fresh(1, 1, 1, 0))
+    return Made(0, fresh(n, V, N, word))
 
 
-def new(n, N):
+def new(n, V, N):
     """The second constructor takes no initial word; it uses zero."""
-    return from_word(n, N, 0)
+    return from_word(n, V, N, 0)
 
 
 def damaged(state):
-    """Number 7, for the confirmation, for the n voters, and for the places at n or above,
-    which must be as in a state freshly made from zero: agreed bit 0, count 0."""
-    n, N = state.confirmation.n, state.confirmation.N
+    """Number 7, for the confirmation, whose count may reach N-1; for the n voters, whose counts may reach V-1;
+    and for the places at n or above, which must be as in a state freshly made from zero: agreed bit 0, count 0."""
+    n = state.confirmation.n
     return (confirm.damaged(state.confirmation)
             or rules.outside(state.agreed, n)
-            or any(count > N - 1 for count in state.counts[:n])
+            or any(count > state.V - 1 for count in state.counts[:n])
             or any(count != 0 for count in state.counts[n:]))
 
 
 def step(state, a, b):
-    """One step on any state."""
-    number = rules.refuse_step(state.confirmation.n, state.confirmation.N, [a, b])
+    """One step on any state. It carries its n, V and N, so 1, for both counts, and 2 apply to it too."""
+    number = rules.refuse_step(state.confirmation.n, [state.V, state.confirmation.N], [a, b])
     if number == 0 and damaged(state):
         number = 7
     if number != 0:
@@ -54,9 +59,8 @@ def step(state, a, b):
 
 
 def vote_all(state, a, b):
-    """The plain vote of each signal, signal 0 first; none depends on another."""
-    N = state.confirmation.N
-    voters = [vote.State(1, N, rules.bit(state.agreed, i), state.counts[i])
+    """The plain vote of each signal, signal 0 first, with the voters' count; none depends on another."""
+    voters = [vote.State(1, state.V, rules.bit(state.agreed, i), state.counts[i])
               for i in range(state.confirmation.n)]
     return [vote.clauses(voter, rules.bit(a, i), rules.bit(b, i), False)
             for i, voter in enumerate(voters)]
@@ -72,20 +76,20 @@ def clauses(state, a, b):
     # If any alarms: the alarm mask with the previous output; confirmation takes no step.
     mask = rules.word_of(int(answer.mark == vote.ALARM) for answer in answers)
     if mask != 0:
-        return Answer(0, before.output, mask, ALARM, State(before, agreed, counts))
-    # Otherwise the voted word takes a step of confirmation, with the same N.
+        return Answer(0, before.output, mask, ALARM, State(state.V, before, agreed, counts))
+    # Otherwise the voted word takes a step of confirmation, with N, which its state carries.
     voted = rules.word_of(answer.word for answer in answers)
     after = confirm.clauses(before, voted)
     mark = CONFIRMED if after.mark == confirm.CONFIRMED else HELD
-    return Answer(0, after.word, 0, mark, State(after.state, agreed, counts))
+    return Answer(0, after.word, 0, mark, State(state.V, after.state, agreed, counts))
 
 
-def run(n, N, word, a, b, words, masks, marks):
+def run(n, V, N, word, a, b, words, masks, marks):
     """A run equals its steps, taken from a fresh state."""
-    number, sample = rules.refuse_run(n, N, word, [a, b], [words, masks, marks])
+    number, sample = rules.refuse_run(n, [V, N], word, [a, b], [words, masks, marks])
     if number != 0:
         return Run(number, sample, words, masks, marks)
-    state = fresh(n, N, word)
+    state = fresh(n, V, N, word)
     words, masks, marks = [], [], []
     for one, two in zip(a, b):
         answer = step(state, one, two)

@@ -19,7 +19,7 @@ def fresh(n, N, word):
 
 def from_word(n, N, word):
     """The constructor with an initial word."""
-    number = rules.refuse_constructor(n, N, word)
+    number = rules.refuse_constructor(n, [N], word)
     if number != 0:
         return Made(number, fresh(1, 1, 0))
     return Made(0, fresh(n, N, word))
@@ -37,7 +37,7 @@ def damaged(state):
 
 def step(state, a, b, reset):
     """One step on any state; without a reset it is the plain vote."""
-    number = rules.refuse_step(state.n, state.N, [a, b])
+    number = rules.refuse_step(state.n, [state.N], [a, b])
     if number == 0 and damaged(state):
         number = 7
     if number != 0:
@@ -62,7 +62,7 @@ def clauses(state, a, b, reset):
 
 def run(n, N, word, a, b, words, marks):
     """A run has no resets; it equals its steps, taken from a fresh state."""
-    number, sample = rules.refuse_run(n, N, word, [a, b], [words, marks])
+    number, sample = rules.refuse_run(n, [N], word, [a, b], [words, marks])
     if number != 0:
         return Run(number, sample, words, marks)
     state = fresh(n, N, word)

@@ -3,7 +3,8 @@
 MADE = "document 01, 'What the library covers' (fresh states), '%s' (Fresh); refusals 1, 2, 5"
 CONFIRM = "document 01, 'Confirmation', clauses 1 to 3; document 000, definition 6"
 VOTE = "document 01, 'Vote of two words', clauses 1 to 4; document 000, definitions 14 and 16"
-TUPLE = "document 01, 'Tuple vote'; document 000, definition 15"
+TWO_COUNTS = '; T-02 of document 02 (two counts)'
+TUPLE = "document 01, 'Tuple vote'; document 000, definition 15" + TWO_COUNTS
 RESERVE = "document 01, 'Reserve vote'; document 000, definition 17"
 STEP = '; refusals 1, 2, 6, 7'
 RUN = '; refusals 1 to 6'
@@ -17,15 +18,15 @@ SETTLED = {
     'vote.from_word': MADE % 'Vote of two words',
     'vote.step': VOTE + STEP,
     'vote.run': VOTE + RUN,
-    'tuple.new': MADE % 'Tuple vote',
-    'tuple.from_word': MADE % 'Tuple vote',
+    'tuple.new': MADE % 'Tuple vote' + TWO_COUNTS,
+    'tuple.from_word': MADE % 'Tuple vote' + TWO_COUNTS,
     'tuple.step': TUPLE + STEP,
     'tuple.run': TUPLE + RUN,
     'reserve.new': MADE % 'Reserve vote',
     'reserve.from_word': MADE % 'Reserve vote',
     'reserve.step': RESERVE + STEP,
     'reserve.run': RESERVE + RUN,
-    'sizing': "document 01, 'Sizing'; document 000, 4.2.2 and 6.2; refusals 2, 9, 10",
+    'sizing': "document 01, 'Sizing'; document 000, 4.2.2 and 6.2" + TWO_COUNTS + '; refusals 2, 9, 10',
     'threshold': "document 01, 'Threshold vote'; document 000, 6.1; refusal 11",
     'recording.read': "document 01, 'The recording' (its own order of checks)",
     'listing': "document 01, 'The recording', the part on the listing program",

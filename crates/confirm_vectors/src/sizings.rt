@@ -11,6 +11,7 @@ fn size() {
     let sized = Sizing::of(n, least, greatest, delay);
     output::first(sized.refusal);
     output::next(sized.need);
+    output::next(sized.votes);
     output::next_wide(sized.age);
     output::next_wide(sized.quiet);
     output::end_line();

@@ -25,12 +25,14 @@ fn print_counts(counts: [u32; 32]) {
     }
 }
 
-// STATE: the confirmation's, the agreed signals as one word, 32 counts.
+// STATE: the voters' count, the confirmation's, the agreed signals as one word, 32 counts.
 fn read_state() -> Tuple {
+    let votes = input::number();
     let confirm = states::read_confirm();
     let agreed = input::number();
     let counts = read_counts();
     Tuple {
+        votes,
         confirm,
         agreed,
         counts,
@@ -40,6 +42,7 @@ fn read_state() -> Tuple {
 fn print_state(s: Tuple) {
     let confirm = s.confirm;
     let counts = s.counts;
+    output::next(s.votes);
     states::print_confirm(confirm);
     output::next(s.agreed);
     print_counts(counts);
@@ -68,19 +71,22 @@ fn step() {
 
 fn new() {
     let n = input::number();
+    let votes = input::number();
     let need = input::number();
-    print_made(Tuple::new(n, need));
+    print_made(Tuple::new(n, votes, need));
 }
 
 fn from_word() {
     let n = input::number();
+    let votes = input::number();
     let need = input::number();
     let word = input::number();
-    print_made(Tuple::from_word(n, need, word));
+    print_made(Tuple::from_word(n, votes, need, word));
 }
 
 fn run_on(
     n: u32,
+    votes: u32,
     need: u32,
     word: u32,
     a: &[u32],
@@ -89,7 +95,7 @@ fn run_on(
     masks: &mut [u32],
     marks: &mut [u8],
 ) {
-    let answer = tuple::run(n, need, word, a, b, words, masks, marks);
+    let answer = tuple::run(n, votes, need, word, a, b, words, masks, marks);
     runs::print_answer(answer);
     output::slice(words);
     output::slice(masks);
@@ -100,6 +106,7 @@ fn run_on(
 // A run lent the first places of each slice, as many as its line says.
 fn run_in(a: &mut [u32], b: &mut [u32], words: &mut [u32], masks: &mut [u32], marks: &mut [u8]) {
     let n = input::number();
+    let votes = input::number();
     let need = input::number();
     let word = input::number();
     let i = input::list(a);
@@ -109,6 +116,7 @@ fn run_in(a: &mut [u32], b: &mut [u32], words: &mut [u32], masks: &mut [u32], ma
     let m = input::lent_bytes(marks);
     run_on(
         n,
+        votes,
         need,
         word,
         &a[..i],

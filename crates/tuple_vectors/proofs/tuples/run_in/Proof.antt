@@ -17,6 +17,7 @@ run-in-spec =
     (λ _ _. tt)
     (λ _ _. tt)
     (λ _ _. tt)
+    (λ _ _. tt)
     (λ c. search needs)
     (λ c. simp length-take (omega arith))
     (λ c. search needs)
