@@ -224,7 +224,8 @@ uint32_t scorve_reserve_run(uint32_t n, uint32_t need, uint32_t word,
 /* Sizing: both counts, the age bound and the quiet gap from the least and the
  * greatest gap between samples and the greatest delay, in microseconds: 2, 9, 10.
  * The vote of two words and the reserve vote compare whole words: their need is
- * n * (votes - 1) + 1, which may exceed 1,000 (docs/COMMISSIONING.md, 2). */
+ * n * (votes - 1) + 1, worked out and not proved, which may exceed 1,000
+ * (docs/COMMISSIONING.md, 2). */
 typedef struct scorve_sizing {
   uint64_t count;      /* for confirmation: hand it over as need; a state's own count is another, which runs */
   uint64_t votes;      /* for votes on a signal: hand it over as a tuple vote's votes */
