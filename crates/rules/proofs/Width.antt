@@ -44,11 +44,16 @@ small (suc m) n w h z =
     one-more : (n m : ℕ) → n + suc m ≡ 1 + (n + m)
     one-more n m = omega arith
 
--- for every word that a u32 holds, and every n
-pub within : (n w : ℕ) → w < 2 ^ 32 → (outside n w ≡ false) ↔ Within n w
-within n w h = (
+-- every word ends: it is below a power of two
+below-power : (w : ℕ) → w < 2 ^ w
+below-power zero = pow-pos 0
+below-power (suc w) = rw pow-suc (omega (arith, below-power w))
+
+-- for every word and every n
+pub within : (n w : ℕ) → (outside n w ≡ false) ↔ Within n w
+within n w = (
   λ e. high-zero n w (inside-lt n w e),
-  λ z. lt-inside n w (small 32 n w (let m : 2 ^ 32 ≤ 2 ^ (n + 32) = pow-mono {i = 32} {j = n + 32} (omega arith) in omega arith) z),
+  λ z. lt-inside n w (small w n w (let m : 2 ^ w ≤ 2 ^ (n + w) = pow-mono {i = w} {j = n + w} (omega arith) in omega (arith, below-power w)) z),
 )
 
 -- n 32, or more, accepts every word

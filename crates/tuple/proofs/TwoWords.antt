@@ -74,7 +74,7 @@ module _ (n need : ℕ) (counts : List ℕ) where
       λ k l. dite (decLt k 32)
       (λ h. word-bit (beyond 0 counts) (beyond-small 0 counts) 32 k h ∙ rw (not-counting k l (fine k h)))
       (λ h. high-zero 32 counting small k (omega arith)) in
-      rw (eq-eqb above 0 none) (within n counting small .1 inside)
+      rw (eq-eqb above 0 none) (within n counting .1 inside)
 
   asked : not (eqb above 0) || outside n counting ≡ false → badPlaces n need counts ≡ false
   asked e =
@@ -82,7 +82,7 @@ module _ (n need : ℕ) (counts : List ℕ) where
       let none = word-zero (beyond (need - 1) counts) (beyond-small (need - 1) counts) 32 .0 (eqb-true above 0 (not-false (eqb above 0) (both .0))) in
       none-below bad 32
       (λ i l. not-bad i (zero-told (ltb (need - 1) (getD counts i 0)) (none i l))
-      (λ h. zero-told (ltb 0 (getD counts i 0)) (sym (word-bit (beyond 0 counts) (beyond-small 0 counts) 32 i l) ∙ within n counting small .0 (both .1) i h)))
+      (λ h. zero-told (ltb 0 (getD counts i 0)) (sym (word-bit (beyond 0 counts) (beyond-small 0 counts) 32 i l) ∙ within n counting .0 (both .1) i h)))
 
   pub by-two-words : badPlaces n need counts ≡ not (eqb above 0) || outside n counting
   by-two-words = same-answer (badPlaces n need counts) (not (eqb above 0) || outside n counting) told asked
