@@ -98,7 +98,7 @@ impl Confirm {
         ConfirmMade { state, refusal }
     }
 
-    // A fresh state from zero.
+    // A fresh state from all ones within the width.
     pub fn new(n: u32, need: u32) -> ConfirmMade
         ensures { λ r. ⌜ r ≡ madeOf n need (defaultWord n) ⌝ }
     {

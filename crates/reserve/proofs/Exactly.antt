@@ -4,11 +4,11 @@ use mathlib.Core.Path.{_≡_, refl}
 use mathlib.Core.Logic.{_↔_}
 use mathlib.Core.List.{List, [], zip}
 use mathlib.Core.Bool.{false}
-use Prim.Native.Nat.{ℕ}
-use Rattle.rules.specs.Limits.{badCount}
-use Rattle.rules.specs.Table.{first, Given, numbered}
-use Rattle.rules.specs.Refusals.{makeRows, runRows}
-use Rattle.rules.proofs.Readings.{Makes}
+use Prim.Native.Nat.{ℕ, _-_, _^_}
+use Rattle.rules.specs.Limits.{badCount, defaultWord}
+use Rattle.rules.specs.Table.{first, answer, Given, numbered}
+use Rattle.rules.specs.Refusals.{makeRows, newRows, runRows}
+use Rattle.rules.proofs.Readings.{Makes, from-default}
 use Rattle.rules.proofs.Tables.{exactly-when, own-number}
 use Rattle.trace.specs.Samples.{somewhere, Smallest, outsideFour}
 use Rattle.trace.specs.Answers.{runNumber, runSample, longFour, apartFour}
@@ -28,6 +28,16 @@ use Rattle.reserve.proofs.Clauses.{either-pair}
 pub from-word-exactly : (n need word k : ℕ) → (madeOf n need word .refusal ≡ k) ↔ Given k (makeRows (badCount need) n word)
 unfolding madeOf numbered
 from-word-exactly n need word = exactly-when (λ (m : ReserveMade). m .refusal) (makeRows (badCount need) n word) notMade (made n need word) refl (λ k. refl) refl
+
+-- `new`: a table of two rows, and where neither is true the fresh state of all ones within the width
+pub new-is : (n need : ℕ) → madeOf n need (defaultWord n) ≡ answer (first (newRows (badCount need) n)) notMade (made n need (2 ^ n - 1))
+unfolding madeOf
+new-is n need = from-default (badCount need) n notMade (made n need)
+
+pub new-exactly : (n need k : ℕ) → (madeOf n need (defaultWord n) .refusal ≡ k) ↔ Given k (newRows (badCount need) n)
+unfolding numbered
+new-exactly n need k =
+    rw (new-is n need) (exactly-when (λ (m : ReserveMade). m .refusal) (newRows (badCount need) n) notMade (made n need (2 ^ n - 1)) refl (λ j. refl) refl k)
 
 -- the clauses refuse nothing, whichever pair is in force
 pub none-refused : (s : Reserve) (a b c d : ℕ) → numberOf (clauses s a b c d .answer) ≡ 0

@@ -97,7 +97,7 @@ impl Reserve {
         }
     }
 
-    // A fresh state from zero.
+    // A fresh state from all ones within the width.
     pub fn new(n: u32, need: u32) -> ReserveMade
         ensures { λ r. ⌜ r ≡ madeOf n need (defaultWord n) ⌝ }
     {

@@ -1,4 +1,5 @@
 pub mod Bits
+pub mod Default
 pub mod OneTest
 pub mod Promise
 pub mod Ranges

@@ -1,13 +1,17 @@
--- The three tables read out: each number, exactly when its row's test is true and no lower row's is; 0, nothing refused,
+-- The four tables read out: each number, exactly when its row's test is true and no lower row's is; 0, nothing refused,
 -- exactly when no test is true. Every voter's calls have these tables, so this page is read once for all of them.
-use mathlib.Core.Path.{_≡_, refl, sym, _∙_}
+use mathlib.Core.Path.{_≡_, refl, sym, ap, _∙_}
 use mathlib.Core.Logic.{_↔_}
 use mathlib.Core.List.{List}
 use mathlib.Core.Bool.{Bool, true, false}
-use Prim.Native.Nat.{ℕ}
-use Rattle.rules.specs.Limits.{badWidth, outside}
+use Prim.Native.Nat.{ℕ, _-_, _^_}
+use lib.Dec.{eqb}
+use borrow.Author.Tests.{eqb-true}
+use Rattle.rules.specs.Choose.{if_then_else_}
+use Rattle.rules.specs.Limits.{badWidth, outside, defaultWord}
 use Rattle.rules.specs.Table.{Row, first, answer, numbered, rising, Given, LowestOf, _and_}
-use Rattle.rules.specs.Refusals.{makeRows, stepRows, runRows}
+use Rattle.rules.specs.Refusals.{makeRows, newRows, stepRows, runRows}
+use Rattle.rules.proofs.Default.{default-inside, default-is}
 use Rattle.rules.proofs.Tables.{exactly, lowest, works, own-number}
 
 module _ (miscounted : Bool) (n word : ℕ) where
@@ -55,6 +59,42 @@ module _ (miscounted : Bool) (n word : ℕ) where
   pub make-lowest : LowestOf making
   unfolding rising
   make-lowest = lowest making refl
+
+-- a constructor that takes no word
+module _ (miscounted : Bool) (n : ℕ) where
+  abbrev newing : List Row
+  newing = newRows miscounted n
+
+  pub new-exactly : (k : ℕ) → (first newing ≡ k) ↔ Given k newing
+  unfolding numbered
+  new-exactly = exactly newing refl
+
+  pub new-1 : (first newing ≡ 1) ↔ miscounted ≡ true
+  new-1 = new-exactly 1
+
+  pub new-2 : (first newing ≡ 2) ↔ miscounted ≡ false and badWidth n ≡ true
+  new-2 = new-exactly 2
+
+  pub new-0 : (first newing ≡ 0) ↔ miscounted ≡ false and badWidth n ≡ false
+  new-0 = (λ e. let g = new-exactly 0 .0 e in (g .0, g .1 .0), λ m. new-exactly 0 .1 (m .0, (m .1, refl)))
+
+  pub new-lowest : LowestOf newing
+  unfolding rising
+  new-lowest = lowest newing refl
+
+  -- the default word is inside, so the table with a word gives the same number, and never 5
+  same-number : first (makeRows miscounted n (defaultWord n)) ≡ first newing
+  unfolding first
+  same-number = rw (default-inside n)
+
+  -- and where it gives none, the work is done from all ones
+  pub from-default :
+      {A : Type 0} (refuse work : ℕ → A)
+      → answer (first (makeRows miscounted n (defaultWord n))) refuse (work (defaultWord n)) ≡ answer (first newing) refuse (work (2 ^ n - 1))
+  from-default refuse work = rw same-number (go (eqb (first newing) 0) refl) where
+    go : (b : Bool) → eqb (first newing) 0 ≡ b → (if b then work (defaultWord n) else refuse (first newing)) ≡ (if b then work (2 ^ n - 1) else refuse (first newing))
+    go true e = ap work (default-is n (new-0 .0 (eqb-true (first newing) 0 e) .1))
+    go false e = refl
 
 module _ (miscounted : Bool) (n : ℕ) (outlying damaged : Bool) where
   abbrev stepping : List Row

@@ -1,7 +1,8 @@
 -- The limits of document 01: each test is true exactly when the condition behind its refusal number holds.
-use Prim.Native.Nat.{ℕ, _^_}
+use Prim.Native.Nat.{ℕ, _-_, _^_}
 use mathlib.Core.Bool.{Bool, not, _||_}
 use lib.Dec.{ltb, eqb}
+use Rattle.rules.specs.Choose.{if_then_else_}
 
 -- 1: a count N is 0 or above 1,000
 abbrev pub badCount : ℕ → Bool
@@ -23,6 +24,6 @@ differ a b = not (eqb a b)
 abbrev pub outside : ℕ → ℕ → Bool
 outside n w = not (ltb w (2 ^ n))
 
--- the word of a constructor that takes none: zero, whatever the width
+-- the word of a constructor that takes none: all ones within the width; zero where the width is refused
 abbrev pub defaultWord : ℕ → ℕ
-defaultWord n = 0
+defaultWord n = if badWidth n then 0 else 2 ^ n - 1

@@ -15,6 +15,13 @@ makeRows miscounted n word =
     5 when outside n word ∷
     []
 
+-- one that takes no word: the default word is never outside, so there is no row for it
+abbrev pub newRows : Bool → ℕ → List Row
+newRows miscounted n =
+    1 when miscounted ∷
+    2 when badWidth n ∷
+    []
+
 -- a step: a word of its sample is outside the width; its state is not one that a step takes
 abbrev pub stepRows : Bool → ℕ → Bool → Bool → List Row
 stepRows miscounted n outlying damaged =

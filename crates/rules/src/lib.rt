@@ -42,11 +42,16 @@ pub fn outside(n: u32, w: u32) -> bool
     }
 }
 
-// The word of a constructor that takes none: zero, whatever the width.
+// The word of a constructor that takes none: all ones within the width, and zero where the width is refused.
 pub fn default_word(n: u32) -> u32
     ensures { λ r. ⌜ r ≡ defaultWord n ⌝ }
 {
-    0
+    if bad_width(n) {
+        return 0;
+    }
+    // In 64 bits, so that a shift by 32 is one like any other.
+    let above = 1u64 << n;
+    (above - 1) as u32
 }
 
 // N-1, the greatest count: 0 of 0.

@@ -3,10 +3,11 @@
 use mathlib.Core.Path.{_≡_, refl, _∙_}
 use mathlib.Core.Logic.{_↔_}
 use mathlib.Core.List.{List, [], zip}
-use Prim.Native.Nat.{ℕ}
-use Rattle.rules.specs.Table.{first, Given, numbered}
-use Rattle.rules.specs.Refusals.{makeRows, runRows}
-use Rattle.rules.proofs.Readings.{Makes}
+use Prim.Native.Nat.{ℕ, _-_, _^_}
+use Rattle.rules.specs.Limits.{defaultWord}
+use Rattle.rules.specs.Table.{first, answer, Given, numbered}
+use Rattle.rules.specs.Refusals.{makeRows, newRows, runRows}
+use Rattle.rules.proofs.Readings.{Makes, from-default}
 use Rattle.rules.proofs.Tables.{exactly-when, own-number}
 use Rattle.trace.specs.Samples.{somewhere, Smallest, outsidePair}
 use Rattle.trace.specs.Answers.{runNumber, runSample, longPair, apartPair}
@@ -26,6 +27,19 @@ use Rattle.tuple.proofs.Clauses.{either-way, confirmed-as}
 pub from-word-exactly : (n votes need word k : ℕ) → (madeOf n votes need word .refusal ≡ k) ↔ Given k (makeRows (badCounts votes need) n word)
 unfolding madeOf numbered
 from-word-exactly n votes need word = exactly-when (λ (m : TupleMade). m .refusal) (makeRows (badCounts votes need) n word) notMade (made n votes need word) refl (λ k. refl) refl
+
+-- `new`: a table of two rows, and where neither is true the fresh state of all ones within the width
+pub new-is :
+    (n votes need : ℕ)
+    → madeOf n votes need (defaultWord n) ≡ answer (first (newRows (badCounts votes need) n)) notMade (made n votes need (2 ^ n - 1))
+unfolding madeOf
+new-is n votes need = from-default (badCounts votes need) n notMade (made n votes need)
+
+pub new-exactly : (n votes need k : ℕ) → (madeOf n votes need (defaultWord n) .refusal ≡ k) ↔ Given k (newRows (badCounts votes need) n)
+unfolding numbered
+new-exactly n votes need k =
+    rw (new-is n votes need)
+    (exactly-when (λ (m : TupleMade). m .refusal) (newRows (badCounts votes need) n) notMade (made n votes need (2 ^ n - 1)) refl (λ j. refl) refl k)
 
 -- the clauses refuse nothing
 pub none-refused : (s : Tuple) (a b : ℕ) → numberOf (clauses s a b .answer) ≡ 0

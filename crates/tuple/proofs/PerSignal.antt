@@ -2,10 +2,12 @@
 use mathlib.Core.Path.{_≡_, sym, ap, _∙_}
 use mathlib.Core.Bool.{false}
 use mathlib.Core.List.{List}
-use Prim.Native.Nat.{ℕ, _<_}
+use Prim.Native.Nat.{ℕ, _≤_, _<_}
 use lib.ListN.{getD}
 use Rattle.rules.specs.Bits.{bit}
+use Rattle.rules.specs.Limits.{outside}
 use Rattle.rules.proofs.Signals.{word-bit, place-below}
+use Rattle.rules.proofs.Width.{within, zero-inside}
 use Rattle.vote.specs.Vote as vote
 use Rattle.vote.specs.declared.Vote.{Vote}
 use Rattle.vote.proofs.Clauses.{same-sizes as vote-sizes}
@@ -22,6 +24,11 @@ same-vote v p q r t = rw (p, q, r, t)
 -- and it starts from its bit of the initial word
 pub voter-fresh : (n votes need word i : ℕ) → voter (fresh n votes need word) i ≡ vote.fresh 1 votes (bit i word)
 voter-fresh n votes need word i = ap (λ (count : ℕ). voterOf votes word count i) (zeros 32 i)
+
+-- so the places for absent signals start as in a state made from zero, whatever the initial word
+pub absent-as-zero : (n votes need word i : ℕ) → outside n word ≡ false → n ≤ i → voter (fresh n votes need word) i ≡ voter (fresh n votes need 0) i
+absent-as-zero n votes need word i inside l =
+    voter-fresh n votes need word i ∙ ap (vote.fresh 1 votes) (within n word .0 inside i l ∙ sym (within n 0 .0 (zero-inside n) i l)) ∙ sym (voter-fresh n votes need 0 i)
 
 module _ (s : Tuple) (a b : ℕ) where
   pub per-signal : (i : ℕ) → i < width s → voter (clauses s a b .state) i ≡ vote.clauses (voter s i) (bit i a) (bit i b) false .state

@@ -188,7 +188,7 @@ impl Tuple {
         TupleMade { state, refusal }
     }
 
-    // A fresh state from zero.
+    // A fresh state from all ones within the width.
     pub fn new(n: u32, votes: u32, need: u32) -> TupleMade
         ensures { λ r. ⌜ r ≡ madeOf n votes need (defaultWord n) ⌝ }
     {

@@ -113,7 +113,7 @@ impl Vote {
         VoteMade { state, refusal }
     }
 
-    // A fresh state from zero.
+    // A fresh state from all ones within the width.
     pub fn new(n: u32, need: u32) -> VoteMade
         ensures { λ r. ⌜ r ≡ madeOf n need (defaultWord n) ⌝ }
     {

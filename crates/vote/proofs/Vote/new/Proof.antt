@@ -2,5 +2,8 @@
 use Rattle.vote.proofs.Vote.new.Statement.{statement}
 use Rattle.vote.proofs.Vote.new.Tie as tie
 
+returns : tie.Need-returns
+returns c = rw (c .from-word .ensures, c .before .default-word .ensures)
+
 pub new-spec : {M : Type 1} → statement M
-new-spec = tie.close (tie.spec (λ _ _. tt) (λ _ _. tt) (λ c. rw (c .from-word .ensures, c .before .default-word .ensures)))
+new-spec = tie.close (tie.spec (λ _ _. tt) (λ _ _. tt) returns)
