@@ -12,5 +12,6 @@ pub mod Shown
 pub mod Sights
 pub mod Sized
 pub mod Stairs
+pub mod Start
 pub mod Tracks
 pub mod Words

@@ -1,5 +1,5 @@
--- Serves proofs only, but for `slow`: the examples of demand 3, one that reaches the age bound, and for each premise one that
--- breaks it alone. A statement says that there is an example, and not which.
+-- Serves proofs only, but for `slow` and `reserved`: the examples of demand 3, one that reaches the age bound, one that starts from
+-- all ones, and for each premise one that breaks it alone. A statement says that there is an example, and not which.
 use Prim.Native.Nat.{ℕ}
 use mathlib.Core.List.{List, [], _∷_}
 use Rattle.plant.specs.Film.{Film}
@@ -23,6 +23,22 @@ slow = two
     (0 ∷ 0 ∷ 0 ∷ 1 ∷ 1 ∷ 1 ∷ 3 ∷ 3 ∷ 3 ∷ 3 ∷ [])
     (2 ∷ 3 ∷ 4 ∷ 5 ∷ 6 ∷ 7 ∷ 8 ∷ 9 ∷ 10 ∷ 11 ∷ [])
     ((0 ∷ 1 ∷ 2 ∷ 3 ∷ 4 ∷ 5 ∷ 6 ∷ 7 ∷ 8 ∷ 9 ∷ []) ∷ (0 ∷ 1 ∷ 2 ∷ 3 ∷ 4 ∷ 5 ∷ 6 ∷ 7 ∷ 8 ∷ 9 ∷ []) ∷ [])
+
+-- A start from all ones, the default word of n 2, at which the plant rests; signal 0 falls at 2 and signal 1 at 4.
+abbrev pub reserved : Film
+reserved =
+    record {
+      n = 2;
+      need = 1;
+      tm = 1;
+      tM = 1;
+      d = 0;
+      initial = 3;
+      shown = 3 ∷ 3 ∷ 2 ∷ 2 ∷ 0 ∷ [];
+      samples = 3 ∷ 3 ∷ 2 ∷ 2 ∷ 0 ∷ 0 ∷ [];
+      taken = 0 ∷ 1 ∷ 2 ∷ 3 ∷ 4 ∷ 5 ∷ [];
+      read = (0 ∷ 1 ∷ 2 ∷ 3 ∷ 4 ∷ 5 ∷ []) ∷ (0 ∷ 1 ∷ 2 ∷ 3 ∷ 4 ∷ 5 ∷ []) ∷ [];
+    }
 
 -- For each premise, a film in which all others hold, and which shows a word that was never there, or was there too long ago.
 abbrev pub breaks : Premise → Film
