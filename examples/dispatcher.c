@@ -40,7 +40,8 @@ static int size_for_the_clocks(scorve_sizing *sizing)
 }
 
 /* The fresh state is made from the word that the units show while the car rests: from another one, the vote would show
- * a word that never was. Returns 0 if that cannot be. */
+ * a word that never was; from the default, all ones, the key would count as turned and the doors as closed, and the car
+ * would run. Returns 0 if the units differ, or the vote is refused. */
 static int start(scorve_tuple *vote, const scorve_sizing *sizing, uint32_t unit_1, uint32_t unit_2)
 {
   uint32_t refusal;

@@ -6,7 +6,7 @@
 #![allow(dead_code)] // a program uses what it needs
 
 // The numbers of the header, under its names. `.ci/test-rust-header` compares all that is declared here with it.
-pub const VERSION: u32 = 3;
+pub const VERSION: u32 = 4;
 pub const MAX_WIDTH: usize = 32;
 pub const MAX_COUNT: u32 = 1000;
 pub const MAX_SAMPLES: usize = 2048;
@@ -69,7 +69,7 @@ type Marks = *mut u8;
 #[link(name = "scorvemaglio", kind = "static")]
 extern "C" {
     fn scorve_version() -> u32;
-    fn scorve_abi_3();
+    fn scorve_abi_4();
     fn scorve_confirm_from_word(state: &mut Confirm, n: u32, need: u32, word: u32) -> u32;
     fn scorve_confirm_new(state: &mut Confirm, n: u32, need: u32) -> u32;
     fn scorve_confirm_step(state: &mut Confirm, input: u32, answer: &mut ConfirmAnswer) -> u32;
@@ -104,7 +104,7 @@ extern "C" {
 
 // A program with this wrapper in it does not link with an archive of another version.
 #[used]
-static ABI: unsafe extern "C" fn() = scorve_abi_3;
+static ABI: unsafe extern "C" fn() = scorve_abi_4;
 
 /// The version of the archive.
 pub fn version() -> u32 {
@@ -116,7 +116,8 @@ fn accepted<T>(refusal: u32, value: T) -> Result<T, u32> {
     if refusal == 0 { Ok(value) } else { Err(refusal) }
 }
 
-// The two constructors, the same for each voter but for its counts.
+// The two constructors, the same for each voter but for its counts. What they write over, `default()`, has zeros for n
+// and the counts, so no step takes it; it is not the state of the default word.
 macro_rules! constructors {
     ($voter:ident, $from_word:ident, $new:ident, [$($count:ident),*]) => {
         /// A fresh state from an initial word.
@@ -124,7 +125,7 @@ macro_rules! constructors {
             let mut state = $voter::default();
             accepted(unsafe { $from_word(&mut state, n, $($count,)* word) }, state)
         }
-        /// A fresh state from the word zero.
+        /// A fresh state from the default word, a one for each of the n signals.
         pub fn new(n: u32, $($count: u32),*) -> Result<$voter, u32> {
             let mut state = $voter::default();
             accepted(unsafe { $new(&mut state, n, $($count),*) }, state)
@@ -236,6 +237,8 @@ mod tests {
         assert_eq!(sample, 3);
         assert_eq!(confirm_run(2, 2, 0, &[], &mut [], &mut [], &mut [], &mut sample), Ok(()));
         assert_eq!((Confirm::new(33, 2), Confirm::from_word(2, 2, 4)), (Err(2), Err(5)));
+        assert_eq!(Confirm::new(2, 2), Confirm::from_word(2, 2, 3));
+        assert_eq!(Confirm::new(32, 2), Confirm::from_word(32, 2, !0));
         let mut state = Confirm::from_word(2, 2, 1).unwrap();
         assert_eq!(state.step(2), Ok(ConfirmAnswer { word: 1, mark: HELD }));
         assert_eq!(state, Confirm { n: 2, need: 2, input: 2, output: 1, count: 0 });
@@ -250,6 +253,7 @@ mod tests {
         assert_eq!(tuple_run(2, 2, 3, 2, &a, &b, &mut words, &mut masks, &mut marks, &mut sample), Ok(()));
         assert_eq!((words, masks, marks, sample), ([2, 2, 2], [0, 0, 2], [1, 1, 2], 0));
         assert_eq!((Vote::new(2, 0), Tuple::new(2, 0, 1), Tuple::new(2, 1, 0)), (Err(1), Err(1), Err(1)));
+        assert_eq!((Vote::new(3, 2), Tuple::new(3, 2, 1)), (Vote::from_word(3, 2, 7), Tuple::from_word(3, 2, 1, 7)));
         let mut vote = Vote::from_word(3, 4, 6).unwrap();
         assert_eq!(vote.step(5, 7, false), Ok(VoteAnswer { word: 6, mark: HELD }));
         assert_eq!(vote, Vote { n: 3, need: 4, word: 6, count: 1 });
@@ -269,6 +273,7 @@ mod tests {
         assert_eq!(reserve_run(3, 2, 0, &a, &b, &c, &d, &mut words, &mut marks, &mut sample), Ok(()));
         assert_eq!((words, marks, sample), ([5, 5, 5, 5, 5, 4], [0, 1, 2, 1, 1, 0], 0));
         assert_eq!((Reserve::new(0, 2), Reserve::from_word(3, 2, 8)), (Err(2), Err(5)));
+        assert_eq!(Reserve::new(3, 2), Reserve::from_word(3, 2, 7));
         let mut state = Reserve { phase: 1, n: 3, need: 4, word: 5, count: 2 };
         assert_eq!(state.step([0, 0, 6, 7]), Ok(ReserveAnswer { word: 5, mark: HELD, pair: 2 }));
         assert_eq!(state, Reserve { phase: 2, n: 3, need: 4, word: 5, count: 0 });

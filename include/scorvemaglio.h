@@ -37,6 +37,13 @@
  * two: votes for its voters and need for its confirmation, in this order. A trace
  * has at most 2,048 samples, and all slices lent to a run have as many places as
  * it has samples.
+ *
+ * A constructor without a word, scorve_.._new, starts from all ones, a one for each
+ * of the n signals: after a power failure each car counts as reserved. The word is
+ * shown until the samples lead to another, in the vote of two words and the reserve
+ * vote at the first agreement. Where a one is the wrong side of some signal, or the
+ * plant is known to show another word, name a word with scorve_.._from_word
+ * (docs/COMMISSIONING.md, 8).
  */
 #ifndef SCORVEMAGLIO_H
 #define SCORVEMAGLIO_H
@@ -63,7 +70,7 @@ extern "C" {
  * compiled with another number than the archive's does not link: the number is
  * part of a name that every object with this header in it refers to, so each
  * needs the archive, also if it calls nothing. */
-#define SCORVE_VERSION 3
+#define SCORVE_VERSION 4
 
 /* The version of the archive, for those who do not compile this header. */
 uint32_t scorve_version(void);
@@ -133,7 +140,7 @@ typedef struct scorve_confirm_answer {
 
 /* A fresh state from an initial word: 1, 2, 5. */
 uint32_t scorve_confirm_from_word(scorve_confirm *state, uint32_t n, uint32_t need, uint32_t word);
-/* The same from the default word, zero: 1, 2. */
+/* The same from the default word, a one for each of the n signals: 1, 2. */
 uint32_t scorve_confirm_new(scorve_confirm *state, uint32_t n, uint32_t need);
 /* One sample: 1, 2, 6, 7. */
 uint32_t scorve_confirm_step(scorve_confirm *state, uint32_t input, scorve_confirm_answer *answer);

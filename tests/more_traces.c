@@ -21,7 +21,7 @@ static void set_lengths(trace *t, size_t units, size_t outputs)
 /* A trace of zeros, all slices of this length. */
 static trace quiet_trace(const voter *v, size_t length)
 {
-  trace t = {.n = 3, .votes = 2, .need = 2};
+  trace t = {.n = 3, .votes = 2, .need = 2, .word = 0};
   size_t k;
   memset(unit_places, 0, sizeof unit_places);
   for (k = 0; k < UNITS; k++)
