@@ -1,4 +1,4 @@
-"""The settled examples of document 01, and the example of T-02 in document 02, each with the answer its text gives.
+"""The settled examples of document 01, and those of T-02 and T-04 in document 02, each with the answer its text gives.
 
 Numbers of an answer of which the example says nothing follow from the clauses.
 Run as a program, it checks every example.
@@ -108,7 +108,7 @@ EXAMPLES += list(width_examples()) + list(length_examples())
 
 # T-02, and what follows from it. A sizing answers count, votes, age bound, quiet gap; a tuple vote has V, then N.
 PLACES = 31 * ' 0'  # the counts of signals 1 to 31, of which there are none
-REQUESTED = [
+COUNTED = [
     Example('Tm 10 and D 9: N 1, and 2 for votes', 'sizing', 'sizing 1 10 12 9', '0 1 2 21 33'),
     Example('Tm 2 and D 1,999: N 1,000, but 1,001 for votes: refusal 10', 'sizing', 'sizing 1 2 3 1999', '10 0 0 0 0'),
     Example('Tm 2 and D 1,998: 1,000 for both', 'sizing', 'sizing 1 2 3 1998', '0 1000 1000 4998 5001'),
@@ -128,17 +128,38 @@ REQUESTED = [
 ]
 
 
+def start_examples():
+    """T-04: all ones within the width, for every width, and zero if it is named. A refused constructor's zero is
+    document 01's own."""
+    made = {'confirm': '{0} {1} {2} {3} {3} 0', 'vote': '{0} {1} {2} {3} 0', 'reserve': '{0} 0 {1} {2} {3} 0',
+            'tuple': '{0} {2} {1} {2} {3} {3} 0 {3}' + 32 * ' 0'}
+    for room in ('confirm', 'vote', 'tuple', 'reserve'):
+        counts = lines.counts_of(room, 2)
+        for n in range(1, 33):
+            ones = int('1' * n, 2)  # written out, not reckoned as in rules.py
+            yield Example('The default becomes all ones within the width', room,
+                          lines.line(room + '.new', [n] + counts), made[room].format(0, n, 2, ones))
+            yield Example('Zero is named from then on', room,
+                          lines.line(room + '.from_word', [n] + counts + [0]), made[room].format(0, n, 2, 0))
+        yield Example('A refused constructor returns the fresh state of n 1, N 1 and word zero', room,
+                      lines.line(room + '.new', [33] + counts), made[room].format(2, 1, 1, 0))
+
+
+REQUESTED = {'T-02': COUNTED, 'T-04': list(start_examples())}
+
+
 def calls(room):
     """The calls of a room's examples of document 01."""
     return [example.call for example in EXAMPLES if example.room == room]
 
 
-def requested(room):
-    """The calls of a room's examples of document 02."""
-    return [example.call for example in REQUESTED if example.room == room]
+def requested(request, room):
+    """The calls of a room's examples of a change request."""
+    return [example.call for example in REQUESTED[request] if example.room == room]
 
 
 if __name__ == '__main__':
-    for one in EXAMPLES + REQUESTED:
+    changed = sum(REQUESTED.values(), [])
+    for one in EXAMPLES + changed:
         assert protocol.answer(one.call) == one.answer, one.name
-    print('%d settled examples hold, and %d of change requests' % (len(EXAMPLES), len(REQUESTED)))
+    print('%d settled examples hold, and %d of change requests' % (len(EXAMPLES), len(changed)))

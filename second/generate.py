@@ -7,6 +7,7 @@ import groups_counts
 import groups_numbers
 import groups_recordings
 import groups_runs
+import groups_start
 import groups_steps
 import groups_tuple
 import groups_words
@@ -25,6 +26,13 @@ ERRORS = {1: 'Confirming after N equal samples',
 
 def cases(calls, error=0):
     return [Case(call, error) for call in calls]
+
+
+def started(kind, room, seed):
+    """The room with what T-04 adds at its end: the examples, then the groups, which look at the calls before them."""
+    room = room + cases(examples.requested('T-04', kind))
+    calls = [case.call for case in room]
+    return room + cases(groups_start.starts(kind, calls, numbers(seed)))
 
 
 def confirm_room():
@@ -49,7 +57,9 @@ def confirm_room():
     room += cases(groups_steps.any_states('confirm', chance))
     room += cases(groups_steps.edges_of_width('confirm', 1))
     # Runs.
-    return room + cases(groups_runs.runs('confirm', chance))
+    room += cases(groups_runs.runs('confirm', chance))
+    # T-04, the start from all ones.
+    return started('confirm', room, 111)
 
 
 def vote_room():
@@ -66,7 +76,9 @@ def vote_room():
     room += cases(groups_steps.any_states('vote', chance))
     room += cases(groups_steps.edges_of_width('vote', 2))
     # Runs.
-    return room + cases(groups_runs.runs('vote', chance))
+    room += cases(groups_runs.runs('vote', chance))
+    # T-04, the start from all ones.
+    return started('vote', room, 112)
 
 
 def tuple_room():
@@ -91,7 +103,9 @@ def tuple_room():
     # T-03, the disagreement as one word: steps and runs of every width.
     room += cases(groups_words.words(chance))
     # T-02, a count for the voters and one for confirmation: its example, then its groups.
-    return room + cases(examples.requested('tuple')) + cases(groups_counts.tuples(numbers(109)))
+    room += cases(examples.requested('T-02', 'tuple')) + cases(groups_counts.tuples(numbers(109)))
+    # T-04, the start from all ones.
+    return started('tuple', room, 113)
 
 
 def reserve_room():
@@ -113,7 +127,9 @@ def reserve_room():
     room += cases(groups_steps.any_states('reserve', chance))
     room += cases(groups_steps.edges_of_width('reserve', 4))
     # Runs.
-    return room + cases(groups_runs.runs('reserve', chance))
+    room += cases(groups_runs.runs('reserve', chance))
+    # T-04, the start from all ones.
+    return started('reserve', room, 114)
 
 
 def sizing_room():
@@ -124,7 +140,7 @@ def sizing_room():
                  + list(groups_numbers.sizing_products(chance))
                  + list(groups_numbers.sizing_random(chance)))
     # T-02, a count for votes and one for confirmation: its example, then its groups.
-    return room + cases(examples.requested('sizing')) + cases(groups_counts.sizings(numbers(110)))
+    return room + cases(examples.requested('T-02', 'sizing')) + cases(groups_counts.sizings(numbers(110)))
 
 
 def threshold_room():
@@ -150,9 +166,11 @@ def recording_room():
     data += groups_recordings.other_lengths()
     data += groups_recordings.outside(chance)
     data += groups_recordings.beyond_longest(chance)
-    # The settled example first; lent slices of other lengths last.
-    return cases(examples.calls('recording') + [read_line(one) for one in data]
+    # The settled example stands before these; lent slices of other lengths follow.
+    room = cases(examples.calls('recording') + [read_line(one) for one in data]
                  + list(groups_recordings.lent_otherwise()))
+    # T-04, zero and all ones, both named.
+    return room + cases(read_line(one) for one in groups_start.recordings(numbers(115)))
 
 
 def listing_room():
@@ -172,7 +190,9 @@ def listing_room():
     data += groups_recordings.other_lengths()
     data += groups_recordings.beyond_longest(chance)
     # The settled example, the paper's own listing, first.
-    return cases(examples.calls('listing') + [listing_line(one) for one in data])
+    room = cases(examples.calls('listing') + [listing_line(one) for one in data])
+    # T-04, zero and all ones, both named.
+    return room + cases(listing_line(one) for one in groups_start.recordings(numbers(116)))
 
 
 MAKERS = {'confirm': confirm_room, 'vote': vote_room, 'tuple': tuple_room,

@@ -26,6 +26,12 @@ def outside(word, n):
     return word >= 2 ** n
 
 
+def default_word(n):
+    """T-04: all ones within the width, for a constructor without an initial word. A width that number 2 refuses
+    has no signals, and its word is not looked at; 0 stands in for it."""
+    return 0 if wrong_width(n) else 2 ** n - 1
+
+
 def bit(word, i):
     """Signal i of the word: "signal i at bit i"."""
     return word // 2 ** i % 2

@@ -1,4 +1,4 @@
-"""Tuple vote. Document 01, 'Tuple vote'; document 000, definition 15; T-02 of document 02.
+"""Tuple vote. Document 01, 'Tuple vote'; document 000, definition 15; T-02 and T-04 of document 02.
 
 T-02: "the tuple vote keeps one for its voters and one for its confirmation". V is the voters' count, the same for
 every signal; N is the confirmation's. Neither need be the greater one.
@@ -26,7 +26,8 @@ def fresh(n, V, N, word):
 
 
 def from_word(n, V, N, word):
-    """The constructor with an initial word. Number 1 covers both counts."""
+    """The constructor with an initial word. Number 1 covers both counts. A refused one returns "the fresh state of
+    n 1, N 1 and word zero", with 1 for both counts."""
     number = rules.refuse_constructor(n, [V, N], word)
     if number != 0:
         return Made(number, fresh(1, 1, 1, 0))
@@ -34,8 +35,9 @@ def from_word(n, V, N, word):
 
 
 def new(n, V, N):
-    """The second constructor takes no initial word; it uses zero."""
-    return from_word(n, V, N, 0)
+    """The second constructor takes no initial word. T-04: it uses all ones within the width, in the confirmation and in
+    the voters' bits; "places for absent signals stay zero"."""
+    return from_word(n, V, N, rules.default_word(n))
 
 
 def damaged(state):

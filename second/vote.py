@@ -1,4 +1,4 @@
-"""Vote of two words. Document 01, 'Vote of two words'; document 000, definitions 14 and 16."""
+"""Vote of two words. Document 01, 'Vote of two words'; document 000, definitions 14 and 16; T-04 of document 02."""
 
 from collections import namedtuple
 
@@ -18,7 +18,7 @@ def fresh(n, N, word):
 
 
 def from_word(n, N, word):
-    """The constructor with an initial word."""
+    """The constructor with an initial word. A refused one returns "the fresh state of n 1, N 1 and word zero"."""
     number = rules.refuse_constructor(n, [N], word)
     if number != 0:
         return Made(number, fresh(1, 1, 0))
@@ -26,8 +26,8 @@ def from_word(n, N, word):
 
 
 def new(n, N):
-    """The second constructor takes no initial word; it uses zero."""
-    return from_word(n, N, 0)
+    """The second constructor takes no initial word. T-04: it uses all ones within the width."""
+    return from_word(n, N, rules.default_word(n))
 
 
 def damaged(state):

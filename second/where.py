@@ -1,6 +1,8 @@
 """Where in the papers each call is settled."""
 
-MADE = "document 01, 'What the library covers' (fresh states), '%s' (Fresh); refusals 1, 2, 5"
+MADE = "document 01, 'What the library covers' (fresh states), '%s' (Fresh)"
+NEW = MADE + '; T-04 of document 02 (all ones within the width); refusals 1, 2'
+FROM_WORD = MADE + '; refusals 1, 2, 5'
 CONFIRM = "document 01, 'Confirmation', clauses 1 to 3; document 000, definition 6"
 VOTE = "document 01, 'Vote of two words', clauses 1 to 4; document 000, definitions 14 and 16"
 TWO_COUNTS = '; T-02 of document 02 (two counts)'
@@ -10,20 +12,20 @@ STEP = '; refusals 1, 2, 6, 7'
 RUN = '; refusals 1 to 6'
 
 SETTLED = {
-    'confirm.new': MADE % 'Confirmation',
-    'confirm.from_word': MADE % 'Confirmation',
+    'confirm.new': NEW % 'Confirmation',
+    'confirm.from_word': FROM_WORD % 'Confirmation',
     'confirm.step': CONFIRM + STEP,
     'confirm.run': CONFIRM + RUN,
-    'vote.new': MADE % 'Vote of two words',
-    'vote.from_word': MADE % 'Vote of two words',
+    'vote.new': NEW % 'Vote of two words',
+    'vote.from_word': FROM_WORD % 'Vote of two words',
     'vote.step': VOTE + STEP,
     'vote.run': VOTE + RUN,
-    'tuple.new': MADE % 'Tuple vote' + TWO_COUNTS,
-    'tuple.from_word': MADE % 'Tuple vote' + TWO_COUNTS,
+    'tuple.new': NEW % 'Tuple vote' + TWO_COUNTS,
+    'tuple.from_word': FROM_WORD % 'Tuple vote' + TWO_COUNTS,
     'tuple.step': TUPLE + STEP,
     'tuple.run': TUPLE + RUN,
-    'reserve.new': MADE % 'Reserve vote',
-    'reserve.from_word': MADE % 'Reserve vote',
+    'reserve.new': NEW % 'Reserve vote',
+    'reserve.from_word': FROM_WORD % 'Reserve vote',
     'reserve.step': RESERVE + STEP,
     'reserve.run': RESERVE + RUN,
     'sizing': "document 01, 'Sizing'; document 000, 4.2.2 and 6.2" + TWO_COUNTS + '; refusals 2, 9, 10',
