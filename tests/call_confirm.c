@@ -4,7 +4,7 @@
 /* Beside a refusal the papers give the fresh state of n 1, N 1 and word 0. */
 static void answer_made(uint32_t refusal, const scorve_confirm *state)
 {
-  static const scorve_confirm after_refusal = {.n = 1, .need = 1};
+  static const scorve_confirm after_refusal = {.n = 1, .need = 1, .input = 0, .output = 0};
   begin_answer(refusal);
   put_numbers(refusal == SCORVE_OK ? state : &after_refusal, sizeof *state);
 }

@@ -3,7 +3,7 @@
 
 static void answer_made(uint32_t refusal, const scorve_reserve *state)
 {
-  static const scorve_reserve after_refusal = {.phase = SCORVE_PRIMARY, .n = 1, .need = 1};
+  static const scorve_reserve after_refusal = {.phase = SCORVE_PRIMARY, .n = 1, .need = 1, .word = 0};
   begin_answer(refusal);
   put_numbers(refusal == SCORVE_OK ? state : &after_refusal, sizeof *state);
 }

@@ -3,7 +3,7 @@
 
 static void answer_made(uint32_t refusal, const scorve_tuple *state)
 {
-  static const scorve_tuple after_refusal = {.votes = 1, .n = 1, .need = 1};
+  static const scorve_tuple after_refusal = {.votes = 1, .n = 1, .need = 1, .input = 0, .output = 0, .agreed = 0};
   begin_answer(refusal);
   put_numbers(refusal == SCORVE_OK ? state : &after_refusal, sizeof *state);
 }

@@ -1,4 +1,4 @@
--- Document 01's refusal numbers 1 to 7, as the three kinds of call of every voter have them. A voter hands in the tests
+-- Document 01's refusal numbers 1 to 7, as the four kinds of call of every voter have them. A voter hands in the tests
 -- that are its own; `miscounted` is row 1's, made of its count N, or of each of its counts.
 use Prim.Native.Nat.{ℕ, _-_}
 use mathlib.Core.List.{List, [], _∷_}

@@ -25,7 +25,7 @@ same-vote v p q r t = rw (p, q, r, t)
 pub voter-fresh : (n votes need word i : ℕ) → voter (fresh n votes need word) i ≡ vote.fresh 1 votes (bit i word)
 voter-fresh n votes need word i = ap (λ (count : ℕ). voterOf votes word count i) (zeros 32 i)
 
--- so the places for absent signals start as in a state made from zero, whatever the initial word
+-- so the places for absent signals start as in a state made from zero, from any initial word inside the width
 pub absent-as-zero : (n votes need word i : ℕ) → outside n word ≡ false → n ≤ i → voter (fresh n votes need word) i ≡ voter (fresh n votes need 0) i
 absent-as-zero n votes need word i inside l =
     voter-fresh n votes need word i ∙ ap (vote.fresh 1 votes) (within n word .0 inside i l ∙ sym (within n 0 .0 (zero-inside n) i l)) ∙ sym (voter-fresh n votes need 0 i)
