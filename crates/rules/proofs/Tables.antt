@@ -87,6 +87,18 @@ module _ {A : Type 0} (refuse : ℕ → A) (work : A) {number k : ℕ} (found : 
   pub works : k ≡ 0 → work ≡ answer number refuse work
   works e = rw (← found, e)
 
+-- what holds of every refusal, and of the work where no number is given, holds of the answer
+pub either-answer :
+    {A : Type 0} (P : A → Type 0) (number : ℕ) (refuse : ℕ → A) (work : A)
+    → ((k : ℕ) → (k ≡ 0 → ⊥) → P (refuse k))
+    → (number ≡ 0 → P work)
+    → P (answer number refuse work)
+either-answer P number refuse work refused worked = go (eqb number 0) refl
+  where
+    go : (b : Bool) → eqb number 0 ≡ b → P (if b then work else refuse number)
+    go true q = worked (eqb-true number 0 q)
+    go false q = refused number (eqb-false number 0 q)
+
 -- an answer's number is its table's, where a refusal has its own number and the work none
 pub own-number :
     {A : Type 0} (numberOf : A → ℕ) (number : ℕ) (refuse : ℕ → A) (work : A)

@@ -10,21 +10,21 @@ use Rattle.rules.specs.Choose.{if_then_else_}
 use Rattle.vote.specs.declared.Vote.{Vote}
 use Rattle.vote.specs.declared.VoteStep.{VoteStep}
 use Rattle.vote.specs.Run.{shownWord, shownMark}
-use Rattle.vote.specs.Vote.{fresh, agreed, held, alarm, clauses}
+use Rattle.vote.specs.Vote.{fresh, agreed, still, held, alarm, clauses}
 
 -- the clauses, of any three tests
 abbrev pub byTests : Vote → ℕ → ℕ → Bool → Bool → Bool → VoteStep
 byTests s a b equal reset waiting =
     if equal then agreed s a else
-    if reset then held s 0 else
-    if waiting then held s (s .count + 1) else
-    alarm s
+    if reset then held s 0 (still (s .word) a b) else
+    if waiting then held s (s .count + 1) (still (s .word) a b) else
+    alarm s (still (s .word) a b)
 
 module _ (s : Vote) where
   -- what holds of each clause holds of the step
   pub each-clause :
-      (P : VoteStep → Type 0) (a b : ℕ) (reset : Bool)
-      → P (agreed s a) → P (held s 0) → P (held s (s .count + 1)) → P (alarm s) → P (clauses s a b reset)
+      (P : VoteStep → Type 0) (a b : ℕ) (reset : Bool) → let u = still (s .word) a b in
+      P (agreed s a) → P (held s 0 u) → P (held s (s .count + 1) u) → P (alarm s u) → P (clauses s a b reset)
   unfolding clauses
   each-clause P a b reset u v w x = go (eqb a b) reset (ltb (s .count) (s .need - 1)) where
     go : (p q r : Bool) → P (byTests s a b p q r)

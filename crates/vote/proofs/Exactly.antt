@@ -45,13 +45,13 @@ pub step-exactly : (s : Vote) (a b : ℕ) (reset : Bool) (k : ℕ) → (numberOf
 unfolding stepOf numbered
 step-exactly s a b reset = exactly-when (λ (t : VoteStep). numberOf (t .answer)) (rowsOf s a b) (notTaken s) (clauses s a b reset) refl (λ k. refl) (none-refused s a b reset)
 
-module _ (n need word : ℕ) (a b words marks : List ℕ) where
+module _ (n need word : ℕ) (a b words marks which : List ℕ) where
   abbrev answered : RunAnswer
-  answered = answerOf n need word a b words marks
+  answered = answerOf n need word a b words marks which
 
   pub run-exactly :
       (k : ℕ) → (runNumber answered ≡ k)
-      ↔ Given k (runRows (badCount need) n word (longPair a b) (apartPair a b (unequal a words marks)) (somewhere (outsidePair n) (zip a b)))
+      ↔ Given k (runRows (badCount need) n word (longPair a b) (apartPair a b (unequal a words marks which)) (somewhere (outsidePair n) (zip a b)))
   run-exactly = runs.answer-exactly _ _ _ _ _ outsidePair (zip a b)
 
   -- 6 comes with the smallest sample outside the width, and any other number with sample 0
@@ -62,6 +62,6 @@ module _ (n need word : ℕ) (a b words marks : List ℕ) where
   run-others = runs.other-zero _ _ _ _ _ outsidePair (zip a b)
 
 -- an empty trace is accepted; as there is no place, nothing is written
-pub empty-taken : (n need word : ℕ) → Makes (badCount need) n word → answerOf n need word [] [] [] [] ≡ Done
+pub empty-taken : (n need word : ℕ) → Makes (badCount need) n word → answerOf n need word [] [] [] [] [] ≡ Done
 unfolding zip
 empty-taken n need word = runs.empty-done outsidePair (badCount need) n word

@@ -21,7 +21,7 @@ use Rattle.vote.specs.declared.Vote.{Vote}
 use Rattle.vote.specs.declared.VotePart.{VotePart}
 use Rattle.vote.specs.declared.VoteStep.{VoteStep}
 use Rattle.vote.specs.Parts.{takenBy, part, Parts, Lent, lent, stored, AsLong, Shown, Written, Taken}
-use Rattle.vote.specs.Run.{plain, leaves, steps, shownWord, shownMark, unequal}
+use Rattle.vote.specs.Run.{plain, leaves, steps, shownWord, shownMark, shownWhich, unequal}
 use Rattle.vote.specs.Vote.{agreed}
 use Rattle.vote.proofs.Clauses.{agrees}
 
@@ -39,19 +39,20 @@ rest-turn : (l l₀ : List ℕ) (i v : ℕ) → drop i l ≡ drop i l₀ → dro
 rest-turn l l₀ i v e = drop-set-lt (i + 1) l i v (omega arith) ∙ sym (drop-drop 1 i l) ∙ ap (drop 1) e ∙ drop-drop 1 i l₀
 
 -- where no length differs every slice is as long as the first column
-pub slices-long : (a b : List ℕ) (l : Lent) → length a ≡ length b → unequal a (l .words) (l .marks) ≡ false → AsLong a b l
+pub slices-long : (a b : List ℕ) (l : Lent) → length a ≡ length b → unequal a (l .words) (l .marks) (l .which) ≡ false → AsLong a b l
 slices-long a b l ab e =
-    let all = or-each (same _ _) (same _ _) e in
-    record { second-long = ab; words-long = all .0; marks-long = all .1 }
+    let all = or-each (or-each (same _ _) (same _ _)) (same _ _) e in
+    record { second-long = ab; words-long = all .0 .0; marks-long = all .0 .1; which-long = all .1 }
 
-pub all-long : (a b : List ℕ) (l : Lent) → apartPair a b (unequal a (l .words) (l .marks)) ≡ false → AsLong a b l
+pub all-long : (a b : List ℕ) (l : Lent) → apartPair a b (unequal a (l .words) (l .marks) (l .which)) ≡ false → AsLong a b l
 all-long a b l e =
     let all = or-each (same _ _) (λ e. e) e in
     slices-long a b l (all .0) (all .1)
 
 -- what code stores of a step, value by value
-pub stored-as : (l : Lent) (i : ℕ) (t : VoteStep) {w m : ℕ} → w ≡ shownWord t → m ≡ shownMark t → lent (set (l .words) i w) (set (l .marks) i m) ≡ stored l i t
-stored-as l i t v u = rw (v, u)
+pub stored-as : (l : Lent) (i : ℕ) (t : VoteStep) {w m u : ℕ} → w ≡ shownWord t → m ≡ shownMark t → u ≡ shownWhich t
+    → lent (set (l .words) i w) (set (l .marks) i m) (set (l .which) i u) ≡ stored l i t
+stored-as l i t p q r = rw (p, q, r)
 
 -- slices that are stored to stay as long
 pub stored-long : {a b : List ℕ} {l′ : Lent} (l : Lent) (i : ℕ) (t : VoteStep) → l′ ≡ stored l i t → AsLong a b l → AsLong a b l′
@@ -61,18 +62,20 @@ stored-long l i t e p =
       second-long = p .second-long;
       words-long = p .words-long ∙ sym (length-set (l .words) i (shownWord t));
       marks-long = p .marks-long ∙ sym (length-set (l .marks) i (shownMark t));
+      which-long = p .which-long ∙ sym (length-set (l .which) i (shownWhich t));
     })
 
 -- and so are the rests of all, from a sample on
 abbrev restOf : ℕ → List ℕ → List ℕ
 restOf k l = take (length l - k) (drop k l)
 
-pub rests-long : (k : ℕ) (a b : List ℕ) (l : Lent) → AsLong a b l → AsLong (restOf k a) (restOf k b) (lent (restOf k (l .words)) (restOf k (l .marks)))
+pub rests-long : (k : ℕ) (a b : List ℕ) (l : Lent) → AsLong a b l → AsLong (restOf k a) (restOf k b) (lent (restOf k (l .words)) (restOf k (l .marks)) (restOf k (l .which)))
 rests-long k a b l p =
     record {
       second-long = rests-alike k a b (p .second-long);
       words-long = rests-alike k a (l .words) (p .words-long);
       marks-long = rests-alike k a (l .marks) (p .marks-long);
+      which-long = rests-alike k a (l .which) (p .which-long);
     }
 
 -- nothing is written yet
@@ -86,6 +89,7 @@ none-written s₀ a b l p =
     record {
       in-words = none-shown shownWord s₀ (zip a b) (l .words) (omega (arith, long, p));
       in-marks = none-shown shownMark s₀ (zip a b) (l .marks) (omega (arith, long, p));
+      in-which = none-shown shownWhich s₀ (zip a b) (l .which) (omega (arith, long, p));
     }
 
 -- the step t on sample i is taken, and what it shows is stored
@@ -99,7 +103,8 @@ module _ (s₀ : Vote) (xs : List (ℕ × ℕ)) (i : ℕ) (t : VoteStep) (q : t 
       }
 
   written-on : {l₀ l : Lent} → Written s₀ xs l₀ i l → Written s₀ xs l₀ (i + 1) (stored l i t)
-  written-on p = record { in-words = shown-on shownWord (p .in-words); in-marks = shown-on shownMark (p .in-marks) }
+  written-on p =
+      record { in-words = shown-on shownWord (p .in-words); in-marks = shown-on shownMark (p .in-marks); in-which = shown-on shownWhich (p .in-which) }
 
 module _ (once : Bool) (s₀ : Vote) (a b : List ℕ) (ab : length a ≡ length b) (l₀ : Lent) where
   abbrev samples : List (ℕ × ℕ)
@@ -146,7 +151,12 @@ pub taken-long :
 taken-long a b ab p =
     let as-long = zip-length a b ab in
     let w = p .written in
-    record { second-long = ab; words-long = sym (w .in-words .long ∙ as-long); marks-long = sym (w .in-marks .long ∙ as-long) }
+    record {
+      second-long = ab;
+      words-long = sym (w .in-words .long ∙ as-long);
+      marks-long = sym (w .in-marks .long ∙ as-long);
+      which-long = sym (w .in-which .long ∙ as-long);
+    }
 
 -- whether it is over, as a test has found it
 pub told-over :
@@ -162,12 +172,17 @@ whole f s₀ xs l₀ end l every p = rw (take-all end xs every, take-all end l (
 pub record Shows (ts : List VoteStep) (l : Lent) : Type 0 where
   pub words-are : l .words ≡ map shownWord ts
   pub marks-are : l .marks ≡ map shownMark ts
+  pub which-are : l .which ≡ map shownWhich ts
 
 pub whole-run : (s₀ : Vote) (xs : List (ℕ × ℕ)) (l₀ : Lent) (end : ℕ) (s : Vote) (l : Lent) → Taken false s₀ xs l₀ end s true l → Shows (steps s₀ xs) l
 whole-run s₀ xs l₀ end s l p =
     let every : length xs ≤ end = omega (arith, p .counted, takes-all s₀ xs) in
     let w = p .written in
-    record { words-are = whole shownWord s₀ xs _ end _ every (w .in-words); marks-are = whole shownMark s₀ xs _ end _ every (w .in-marks) }
+    record {
+      words-are = whole shownWord s₀ xs _ end _ every (w .in-words);
+      marks-are = whole shownMark s₀ xs _ end _ every (w .in-marks);
+      which-are = whole shownWhich s₀ xs _ end _ every (w .in-which);
+    }
 
 -- what is promised is what the loops leave, where columns and slices are of one length
 taken-most : (once : Bool) (s : Vote) (xs : List (ℕ × ℕ)) → takenBy once s xs ≤ length xs
@@ -182,8 +197,8 @@ shown-long : (f : VoteStep → ℕ) (s : Vote) (xs : List (ℕ × ℕ)) (end : �
 shown-long f s xs end h = length-map (steps s (take end xs)) f ∙ trace-length plain leaves s (take end xs) ∙ length-take-le end xs h
 
 pub promised :
-    (once : Bool) (s : Vote) (a b : List ℕ) (l l′ : Lent) (r : VotePart) → apartPair a b (unequal a (l .words) (l .marks)) ≡ false
-    → Taken once s (zip a b) l (r .end) (r .state) true l′ → Parts once s a b (l .words) (l .marks) r (l′ .words) (l′ .marks)
+    (once : Bool) (s : Vote) (a b : List ℕ) (l l′ : Lent) (r : VotePart) → apartPair a b (unequal a (l .words) (l .marks) (l .which)) ≡ false
+    → Taken once s (zip a b) l (r .end) (r .state) true l′ → Parts once s a b (l .words) (l .marks) (l .which) r (l′ .words) (l′ .marks) (l′ .which)
 promised once s a b l l′ r alike p =
     let here : takenBy once s (zip a b) ≡ r .end = omega (arith, p .counted) in
     let w = p .written in
@@ -191,6 +206,7 @@ promised once s a b l l′ r alike p =
       answered = rw (alike, here, p .leaving);
       words-after = rw (← w .in-words .shown, ← w .in-words .rest) (sym (take-append-drop (r .end) (l′ .words)));
       marks-after = rw (← w .in-marks .shown, ← w .in-marks .rest) (sym (take-append-drop (r .end) (l′ .marks)));
+      which-after = rw (← w .in-which .shown, ← w .in-which .rest) (sym (take-append-drop (r .end) (l′ .which)));
     }
 
 as-shown :
@@ -206,11 +222,11 @@ as-shown f s xs end l₀ l most as-long e =
     }
 
 module _ (once : Bool) (s : Vote) (a b : List ℕ) (l l′ : Lent) (long : AsLong a b l) where
-  alike : apartPair a b (unequal a (l .words) (l .marks)) ≡ false
-  alike = rw (eq-eqb _ _ (long .second-long), eq-eqb _ _ (long .words-long), eq-eqb _ _ (long .marks-long))
+  alike : apartPair a b (unequal a (l .words) (l .marks) (l .which)) ≡ false
+  alike = rw (eq-eqb _ _ (long .second-long), eq-eqb _ _ (long .words-long), eq-eqb _ _ (long .marks-long), eq-eqb _ _ (long .which-long))
 
   pub as-taken :
-      (r : VotePart) → Parts once s a b (l .words) (l .marks) r (l′ .words) (l′ .marks) → Taken once s (zip a b) l (r .end) (r .state) true l′
+      (r : VotePart) → Parts once s a b (l .words) (l .marks) (l .which) r (l′ .words) (l′ .marks) (l′ .which) → Taken once s (zip a b) l (r .end) (r .state) true l′
   as-taken r p =
       let xs = zip a b in
       let is : r ≡ part once s xs = rw alike at (p .answered) in
@@ -223,5 +239,6 @@ module _ (once : Bool) (s : Vote) (a b : List ℕ) (l l′ : Lent) (long : AsLon
         written = record {
           in-words = as-shown shownWord s xs (r .end) (l .words) (l′ .words) most (omega (arith, size, long)) (p .words-after);
           in-marks = as-shown shownMark s xs (r .end) (l .marks) (l′ .marks) most (omega (arith, size, long)) (p .marks-after);
+          in-which = as-shown shownWhich s xs (r .end) (l .which) (l′ .which) most (omega (arith, size, long)) (p .which-after);
         };
       }

@@ -18,7 +18,7 @@ use Rattle.trace.proofs.Samples.{nowhere}
 use Rattle.trace.proofs.Steps.{agree}
 use Rattle.vote.specs.declared.Vote.{Vote}
 use Rattle.vote.specs.Vote.{fresh, clauses, made, notMade, madeOf, stepOf}
-use Rattle.vote.specs.Run.{leaves, plain, publicPlain, steps, publicSteps, shownWord, shownMark, Ran, Stepwise}
+use Rattle.vote.specs.Run.{leaves, plain, publicPlain, steps, publicSteps, shownWord, shownMark, shownWhich, Ran, Stepwise}
 use Rattle.vote.proofs.Clauses.{byTests}
 
 -- a state of width n that a step takes
@@ -66,9 +66,9 @@ module _ (n need word : ℕ) (m : Makes (badCount need) n word) where
       (λ s x. step-is-clauses n s (x .0) (x .1) false) (λ s x. sound-next n s (x .0) (x .1) false) (0, 0) (fresh n need word) xs fresh-sound inside)
 
 pub run-is-steps :
-    (n need word : ℕ) (a b words marks words′ marks′ : List ℕ)
-    → Ran n need word a b words marks Done words′ marks′ → Stepwise n need word a b words′ marks′
-run-is-steps n need word a b words marks words′ marks′ ran =
+    (n need word : ℕ) (a b words marks which words′ marks′ which′ : List ℕ)
+    → Ran n need word a b words marks which Done words′ marks′ which′ → Stepwise n need word a b words′ marks′ which′
+run-is-steps n need word a b words marks which words′ marks′ which′ ran =
     let fine = answer-done _ _ _ _ _ outsidePair (zip a b) (sym (ran .answered)) in
     let m = run-makes _ _ _ _ _ _ fine in
     let same = same-steps n need word m (zip a b) (nowhere (outsidePair n) (zip a b) (0, 0) (fine .samples-in)) in
@@ -76,4 +76,5 @@ run-is-steps n need word a b words marks words′ marks′ ran =
       made = rw (made-fresh n need word m);
       words-same = ran .words-after ∙ ap (map shownWord) same;
       marks-same = ran .marks-after ∙ ap (map shownMark) same;
+      which-same = ran .which-after ∙ ap (map shownWhich) same;
     }

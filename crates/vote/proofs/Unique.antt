@@ -13,14 +13,16 @@ use Rattle.trace.specs.Answers.{after}
 use Rattle.trace.specs.declared.RunAnswer.{RunAnswer}
 use Rattle.vote.specs.declared.Vote.{Vote as State}
 use Rattle.vote.specs.declared.VotePart.{VotePart}
-use Rattle.vote.specs.Answers.{numberOf, wordOf, markOf}
+use Rattle.vote.specs.Answers.{numberOf, wordOf, markOf, byteOf, whichOf}
 use Rattle.vote.specs.Parts.{partOf}
 use Rattle.vote.specs.Vote
 use Rattle.vote.specs.Vote.{fresh, madeOf, stepOf}
-use Rattle.vote.specs.Run.{steps, shownWord, shownMark, answerOf}
+use Rattle.vote.specs.Run.{steps, shownWord, shownMark, shownWhich, answerOf}
 use Rattle.vote.proofs.VoteAnswer.number.Reads as number
 use Rattle.vote.proofs.VoteAnswer.word.Reads as word
 use Rattle.vote.proofs.VoteAnswer.mark.Reads as mark
+use Rattle.vote.proofs.VoteAnswer.which.Reads as which
+use Rattle.vote.proofs.Which.byte.Reads as byte
 use Rattle.vote.proofs.Vote.from_word.Reads as from-word
 use Rattle.vote.proofs.Vote.new.Reads as new
 use Rattle.vote.proofs.Vote.clauses.Reads as clauses
@@ -37,6 +39,12 @@ word-unique = fixes (λ a z e p. p)
 pub mark-unique : Fixes (mark.Learnt tt) (λ z e. z) (λ a. markOf (a .0))
 mark-unique = fixes (λ a z e p. p)
 
+pub which-unique : Fixes (which.Learnt tt) (λ z e. z) (λ a. whichOf (a .0))
+which-unique = fixes (λ a z e p. p)
+
+pub byte-unique : Fixes (byte.Learnt tt) (λ z e. z) (λ a. byteOf (a .0))
+byte-unique = fixes (λ a z e p. p)
+
 pub from-word-unique : Fixes (from-word.Learnt tt) (λ z e. z) (λ a. madeOf (a .0) (a .1 .0) (a .1 .1 .0))
 from-word-unique = fixes (λ a z e p. p)
 
@@ -47,35 +55,40 @@ pub clauses-unique : Fixes (clauses.Learnt tt) (λ z e. z) (λ a. Vote.clauses (
 clauses-unique = fixes (λ a z e p. p)
 
 pub step-unique : Fixes (step.Learnt tt) (λ z e. z) (λ a. stepOf (a .0) (a .1 .0) (a .1 .1 .0) (a .1 .1 .1 .0))
-step-unique = fixes (λ a z e p. p)
+step-unique = fixes (λ a z e p. p .0)
 
--- a run: its answer, and the words and marks as it leaves them
+-- a run: its answer, and each slice as it leaves it
 abbrev pub Seen : Type 0
-Seen = RunAnswer × List ℕ × List ℕ
+Seen = RunAnswer × List ℕ × List ℕ × List ℕ
 
-abbrev pub ran : ℕ → ℕ → ℕ → List ℕ → List ℕ → List ℕ → List ℕ → Seen
-ran n need w a b words marks =
-    let r = answerOf n need w a b words marks in
+abbrev pub ran : ℕ → ℕ → ℕ → List ℕ → List ℕ → List ℕ → List ℕ → List ℕ → Seen
+ran n need w a b words marks which =
+    let r = answerOf n need w a b words marks which in
     let taken = steps (fresh n need w) (zip a b) in
-    (r, after r words (map shownWord taken), after r marks (map shownMark taken))
+    (r, after r words (map shownWord taken), after r marks (map shownMark taken), after r which (map shownWhich taken))
 
 pub run-unique :
-    (κs : Lfts 4)
+    (κs : Lfts 5)
     → Fixes {O = Seen} (run.Learnt κs)
-    (λ z e. let lent = e .1 .1 .1 .1 .1 in (z, now (lent .0), now (lent .1 .0)))
-    (λ a. let lent = a .1 .1 .1 in ran (a .0) (a .1 .0) (a .1 .1 .0) (now (lent .0)) (now (lent .1 .0)) (now (lent .1 .1 .0)) (now (lent .1 .1 .1 .0)))
+    (λ z e. let lent = e .1 .1 .1 .1 .1 in (z, now (lent .0), now (lent .1 .0), now (lent .1 .1 .0)))
+    (λ a. let lent = a .1 .1 .1 in
+    ran (a .0) (a .1 .0) (a .1 .1 .0) (now (lent .0)) (now (lent .1 .0)) (now (lent .1 .1 .0)) (now (lent .1 .1 .1 .0)) (now (lent .1 .1 .1 .1 .0)))
 run-unique κs = fixes (λ a z e p. cc)
 
--- the steps over two columns: what is taken and left, and the words and marks
-abbrev went : Bool → State → List ℕ → List ℕ → List ℕ → List ℕ → VotePart × List ℕ × List ℕ
-went once s a b words marks =
-    let r = partOf once s a b words marks in
+-- the steps over two columns: what is taken and left, and each slice
+abbrev Went : Type 0
+Went = VotePart × List ℕ × List ℕ × List ℕ
+
+abbrev went : Bool → State → List ℕ → List ℕ → List ℕ → List ℕ → List ℕ → Went
+went once s a b words marks which =
+    let r = partOf once s a b words marks which in
     let taken = steps s (take (r .end) (zip a b)) in
-    (r, map shownWord taken ++ drop (r .end) words, map shownMark taken ++ drop (r .end) marks)
+    (r, map shownWord taken ++ drop (r .end) words, map shownMark taken ++ drop (r .end) marks, map shownWhich taken ++ drop (r .end) which)
 
 pub write-steps-unique :
-    (κs : Lfts 4)
-    → Fixes {O = VotePart × List ℕ × List ℕ} (write-steps.Learnt κs)
-    (λ z e. let lent = e .1 .1 .1 .1 in (z, now (lent .0), now (lent .1 .0)))
-    (λ a. let lent = a .1 .1 in went (a .1 .0) (a .0) (now (lent .0)) (now (lent .1 .0)) (now (lent .1 .1 .0)) (now (lent .1 .1 .1 .0)))
+    (κs : Lfts 5)
+    → Fixes {O = Went} (write-steps.Learnt κs)
+    (λ z e. let lent = e .1 .1 .1 .1 in (z, now (lent .0), now (lent .1 .0), now (lent .1 .1 .0)))
+    (λ a. let lent = a .1 .1 in
+    went (a .1 .0) (a .0) (now (lent .0)) (now (lent .1 .0)) (now (lent .1 .1 .0)) (now (lent .1 .1 .1 .0)) (now (lent .1 .1 .1 .1 .0)))
 write-steps-unique κs = fixes (λ a z e p. cc)

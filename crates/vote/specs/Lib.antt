@@ -3,3 +3,4 @@ pub mod Answers
 pub mod Parts
 pub mod Run
 pub mod Vote
+pub mod Which

@@ -18,13 +18,14 @@ fn write_apart(
     b: &[u32],
     words: &mut [u32],
     marks: &mut [u8],
+    which: &mut [u8],
 ) -> VoteRow
-    requires { ⌜ AsLong (now a) (now b) (lent (now words) (now marks)) ⌝ }
+    requires { ⌜ AsLong (now a) (now b) (lent (now words) (now marks) (now which)) ⌝ }
     requires { ⌜ from < length (now a) ⌝ }
     requires { ⌜ (getD (now a) from 0 ≡ getD (now b) from 0 → ⊥) ⌝ }
     ensures { λ r. ⌜ (from < r .end) × (r .end ≤ length (now (a .entry))) ⌝ }
-    ensures { λ r. ⌜ GoesOn once (zip (now (a .entry)) (now (b .entry))) from start (lent (now (words .entry)) (now (marks .entry)))
-        r (lent (now (words .exit)) (now (marks .exit))) ⌝ }
+    ensures { λ r. ⌜ GoesOn once (zip (now (a .entry)) (now (b .entry))) from start (lent (now (words .entry)) (now (marks .entry)) (now (which .entry)))
+        r (lent (now (words .exit)) (now (marks .exit)) (now (which .exit))) ⌝ }
 {
     let mut state = start;
     let mut i = from;
@@ -42,6 +43,7 @@ fn write_apart(
         state = taken.state;
         words[i] = answer.word();
         marks[i] = mark;
+        which[i] = answer.which();
         i += 1;
         let over = once & (mark == 2);
         if over {
@@ -68,10 +70,11 @@ pub(crate) fn take_steps(
     b: &[u32],
     words: &mut [u32],
     marks: &mut [u8],
+    which: &mut [u8],
 ) -> VotePart
-    requires { ⌜ AsLong (now a) (now b) (lent (now words) (now marks)) ⌝ }
-    ensures { λ r. ⌜ Taken once start (zip (now (a .entry)) (now (b .entry))) (lent (now (words .entry)) (now (marks .entry)))
-        (r .end) (r .state) true (lent (now (words .exit)) (now (marks .exit))) ⌝ }
+    requires { ⌜ AsLong (now a) (now b) (lent (now words) (now marks) (now which)) ⌝ }
+    ensures { λ r. ⌜ Taken once start (zip (now (a .entry)) (now (b .entry))) (lent (now (words .entry)) (now (marks .entry)) (now (which .entry)))
+        (r .end) (r .state) true (lent (now (words .exit)) (now (marks .exit)) (now (which .exit))) ⌝ }
 {
     let mut state = start;
     let mut i = 0;
@@ -81,9 +84,10 @@ pub(crate) fn take_steps(
             state = state.agreed(word).state;
             words[i] = word;
             marks[i] = 0;
+            which[i] = 0;
             i += 1;
         } else {
-            let row = write_apart(state, once, i, a, b, words, marks);
+            let row = write_apart(state, once, i, a, b, words, marks, which);
             state = row.state;
             i = row.end;
             if row.over {
@@ -102,12 +106,13 @@ pub fn write_steps(
     b: &[u32],
     words: &mut [u32],
     marks: &mut [u8],
+    which: &mut [u8],
 ) -> VotePart
-    ensures { λ r. ⌜ Parts once start (now (a .entry)) (now (b .entry)) (now (words .entry)) (now (marks .entry))
-        r (now (words .exit)) (now (marks .exit)) ⌝ }
+    ensures { λ r. ⌜ Parts once start (now (a .entry)) (now (b .entry)) (now (words .entry)) (now (marks .entry)) (now (which .entry))
+        r (now (words .exit)) (now (marks .exit)) (now (which .exit)) ⌝ }
 {
     let len = a.len();
-    let unequal = (len != words.len()) | (len != marks.len());
+    let unequal = (len != words.len()) | (len != marks.len()) | (len != which.len());
     let apart = (len != b.len()) | unequal;
     if apart {
         return VotePart {
@@ -115,5 +120,5 @@ pub fn write_steps(
             end: 0,
         };
     }
-    take_steps(start, once, a, b, words, marks)
+    take_steps(start, once, a, b, words, marks, which)
 }

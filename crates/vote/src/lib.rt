@@ -4,9 +4,10 @@ pub mod columns;
 use trace::RunAnswer;
 ghost use mathlib.Core.Path.{_≡_};
 ghost use Rattle.rules.specs.Limits.{defaultWord};
-ghost use Rattle.vote.specs.Answers.{numberOf, wordOf, markOf};
-ghost use Rattle.vote.specs.Vote.{fresh, agreed, held, clauses, madeOf, stepOf};
-ghost use Rattle.vote.specs.Run.{Ran};
+ghost use Rattle.vote.specs.Answers.{numberOf, wordOf, markOf, byteOf, whichOf};
+ghost use Rattle.vote.specs.Vote.{fresh, agreed, still, held, clauses, madeOf, stepOf};
+ghost use Rattle.vote.specs.Run.{Ran, shownWhich};
+ghost use Rattle.vote.specs.Which.{NotNeither};
 
 // The state of a vote, with its width n and its count N (`need`).
 pub struct Vote {
@@ -23,11 +24,18 @@ pub struct VoteMade {
     pub refusal: u32,
 }
 
-// The word that is shown, on hold and alarm the last agreed one, or a refusal's number.
+// Which unit still shows the last agreed word, where the two differ.
+pub enum Which {
+    First,
+    Second,
+    Neither,
+}
+
+// The word that is shown, on hold and alarm the last agreed one with the unit that still shows it, or a refusal's number.
 pub enum VoteAnswer {
     Agreed(u32),
-    Held(u32),
-    Alarm(u32),
+    Held(u32, Which),
+    Alarm(u32, Which),
     Refused(u32),
 }
 
@@ -50,6 +58,19 @@ struct VoteRow {
     pub over: bool,
 }
 
+impl Which {
+    // 1 first, 2 second, 3 neither.
+    pub fn byte(self) -> u8
+        ensures { λ r. ⌜ r ≡ byteOf self ⌝ }
+    {
+        match self {
+            Which::First => 1,
+            Which::Second => 2,
+            Which::Neither => 3,
+        }
+    }
+}
+
 impl VoteAnswer {
     // The refusal's number, 0 for none.
     pub fn number(self) -> u32
@@ -57,8 +78,8 @@ impl VoteAnswer {
     {
         match self {
             VoteAnswer::Agreed(_) => 0,
-            VoteAnswer::Held(_) => 0,
-            VoteAnswer::Alarm(_) => 0,
+            VoteAnswer::Held(_, _) => 0,
+            VoteAnswer::Alarm(_, _) => 0,
             VoteAnswer::Refused(k) => k,
         }
     }
@@ -69,8 +90,8 @@ impl VoteAnswer {
     {
         match self {
             VoteAnswer::Agreed(w) => w,
-            VoteAnswer::Held(w) => w,
-            VoteAnswer::Alarm(w) => w,
+            VoteAnswer::Held(w, _) => w,
+            VoteAnswer::Alarm(w, _) => w,
             VoteAnswer::Refused(_) => 0,
         }
     }
@@ -81,11 +102,36 @@ impl VoteAnswer {
     {
         match self {
             VoteAnswer::Agreed(_) => 0,
-            VoteAnswer::Held(_) => 1,
-            VoteAnswer::Alarm(_) => 2,
+            VoteAnswer::Held(_, _) => 1,
+            VoteAnswer::Alarm(_, _) => 2,
             VoteAnswer::Refused(_) => 255,
         }
     }
+
+    // Which unit still shows the last agreed word: 0 agreed, 1 first, 2 second, 3 neither, 0 with a refusal.
+    pub fn which(self) -> u8
+        ensures { λ r. ⌜ r ≡ whichOf self ⌝ }
+    {
+        match self {
+            VoteAnswer::Agreed(_) => 0,
+            VoteAnswer::Held(_, which) => which.byte(),
+            VoteAnswer::Alarm(_, which) => which.byte(),
+            VoteAnswer::Refused(_) => 0,
+        }
+    }
+}
+
+// The unit that still shows the last agreed word. Two words that differ cannot both be it, so the order decides nothing.
+fn still(word: u32, a: u32, b: u32) -> Which
+    ensures { λ r. ⌜ r ≡ still word a b ⌝ }
+{
+    if a == word {
+        return Which::First;
+    }
+    if b == word {
+        return Which::Second;
+    }
+    Which::Neither
 }
 
 impl Vote {
@@ -134,8 +180,8 @@ impl Vote {
         }
     }
 
-    fn held(self, count: u32) -> VoteStep
-        ensures { λ r. ⌜ r ≡ held self count ⌝ }
+    fn held(self, count: u32, which: Which) -> VoteStep
+        ensures { λ r. ⌜ r ≡ held self count which ⌝ }
     {
         VoteStep {
             state: Vote {
@@ -144,7 +190,7 @@ impl Vote {
                 word: self.word,
                 count,
             },
-            answer: VoteAnswer::Held(self.word),
+            answer: VoteAnswer::Held(self.word, which),
         }
     }
 
@@ -158,21 +204,23 @@ impl Vote {
         if equal {
             return self.agreed(a);
         }
+        let which = still(self.word, a, b);
         if reset {
-            return self.held(0);
+            return self.held(0, which);
         }
         if waiting {
-            return self.held(self.count + 1);
+            return self.held(self.count + 1, which);
         }
         VoteStep {
             state: self,
-            answer: VoteAnswer::Alarm(self.word),
+            answer: VoteAnswer::Alarm(self.word, which),
         }
     }
 
     // One step. A refused one returns the state it got.
     pub fn step(self, a: u32, b: u32, reset: bool) -> VoteStep
         ensures { λ r. ⌜ r ≡ stepOf self a b reset ⌝ }
+        ensures { λ r. ⌜ NotNeither (self .n) (shownWhich r) ⌝ }
     {
         let sample = a | b;
         let counted = rules::counted(self.need, self.count);
@@ -197,16 +245,17 @@ pub fn run(
     b: &[u32],
     words: &mut [u32],
     marks: &mut [u8],
+    which: &mut [u8],
 ) -> RunAnswer
-    ensures { λ r. ⌜ Ran n need word (now (a .entry)) (now (b .entry)) (now (words .entry)) (now (marks .entry))
-        r (now (words .exit)) (now (marks .exit)) ⌝ }
+    ensures { λ r. ⌜ Ran n need word (now (a .entry)) (now (b .entry)) (now (words .entry)) (now (marks .entry)) (now (which .entry))
+        r (now (words .exit)) (now (marks .exit)) (now (which .exit)) ⌝ }
 {
     let len = a.len();
-    let unequal = (len != words.len()) | (len != marks.len());
+    let unequal = (len != words.len()) | (len != marks.len()) | (len != which.len());
     let answer = trace::judge_pair(rules::bad_count(need), n, word, a, b, unequal);
     let RunAnswer::Done = answer else {
         return answer;
     };
-    columns::take_steps(Vote::fresh(n, need, word), false, a, b, words, marks);
+    columns::take_steps(Vote::fresh(n, need, word), false, a, b, words, marks, which);
     RunAnswer::Done
 }

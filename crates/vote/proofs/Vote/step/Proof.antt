@@ -11,7 +11,11 @@ use Rattle.rules.specs.Refusals.{stepRows, counted, admits}
 use Rattle.rules.proofs.OneTest.{by-one-test}
 use Rattle.rules.proofs.Width.{outside-or}
 use Rattle.vote.specs.declared.Vote.{Vote}
+use Rattle.vote.specs.declared.VoteStep.{VoteStep}
+use Rattle.vote.specs.Run.{shownWhich}
 use Rattle.vote.specs.Vote.{clauses, notTaken, stepOf}
+use Rattle.vote.specs.Which.{NotNeither}
+use Rattle.vote.proofs.Bytes.{step-not-neither}
 use Rattle.vote.proofs.Vote.step.Statement.{statement}
 use Rattle.vote.proofs.Vote.step.Tie as tie
 
@@ -27,6 +31,10 @@ unfolding stepOf
 ways s a b reset =
     by-one-test (badCount (s .need)) (ltb (s .need - 1) (s .count)) (s .n) (bitOr a b) (s .word) refl (outside-or (s .n) a b) refl (notTaken s) (clauses s a b reset)
 
+-- so both parts of the promise
+promised : (s : Vote) (a b : ℕ) (reset : Bool) {t : VoteStep} → t ≡ stepOf s a b reset → (t ≡ stepOf s a b reset) × NotNeither (s .n) (shownWhich t)
+promised s a b reset e = (e, rw e (step-not-neither s a b reset))
+
 -- the arguments, as the one test saw them, and what it found
 abbrev asked : tie.After-admits → tie.Start
 asked c = c .before .before .before
@@ -40,13 +48,14 @@ returns : tie.Need-returns
 returns c =
     let tested = c .before .before .before in
     let x = asked tested .args in
-    rw (c .step-number .ensures, c .before .bad-count .ensures) (ways (x .self) (x .a) (x .b) (x .reset) .1 (sym (found tested) ∙ not-true _ (c .before .before .if1 .taken)))
+    promised _ _ _ _
+    (rw (c .step-number .ensures, c .before .bad-count .ensures) (ways (x .self) (x .a) (x .b) (x .reset) .1 (sym (found tested) ∙ not-true _ (c .before .before .if1 .taken))))
 
 returns-2 : tie.Need-returns-2
 returns-2 c =
     let tested = c .before .before in
     let x = asked tested .args in
-    c .clauses .ensures ∙ ways (x .self) (x .a) (x .b) (x .reset) .0 (sym (found tested) ∙ not-false _ (c .before .if1 .left))
+    promised _ _ _ _ (c .clauses .ensures ∙ ways (x .self) (x .a) (x .b) (x .reset) .0 (sym (found tested) ∙ not-false _ (c .before .if1 .left)))
 
 pub step-spec : {M : Type 1} → statement M
 step-spec = tie.close (tie.spec (λ _ _. tt) (λ _ _. tt) (λ _ _. tt) (λ _ _. tt) returns (λ _ _. tt) returns-2)

@@ -17,18 +17,18 @@ record Going (once : Bool) (a b : List ℕ) (l₀ : Lent) (state₀ : Vote) (l :
   taken : Taken once state₀ (zip a b) l₀ i state false l
 
 abbrev Inv-loop : tie.InvT-loop
-Inv-loop once a b words₀ marks₀ state₀ i₀ words marks state i = Going once a b (lent words₀ marks₀) state₀ (lent words marks) state i
+Inv-loop once a b words₀ marks₀ which₀ state₀ i₀ words marks which state i = Going once a b (lent words₀ marks₀ which₀) state₀ (lent words marks which) state i
 
 abbrev μ-loop : tie.MeasureT-loop
-μ-loop once a b words₀ marks₀ state₀ i₀ words marks state i = length a - i
+μ-loop once a b words₀ marks₀ which₀ state₀ i₀ words marks which state i = length a - i
 
 -- the loop at the sample where a row of others begins
 abbrev loop-of : tie.After-write-apart Inv-loop μ-loop → tie.In-loop Inv-loop μ-loop
-loop-of c = c .before .before .before .before .before .before
+loop-of c = c .before .before .before .before .before .before .before
 
 loop-holds : tie.Need-loop-holds Inv-loop μ-loop
 loop-holds c =
-    let s = c .before .before .before .before in
+    let s = c .before .before .before .before .before in
     let x = s .args in
     let long = s .pre in
     record {
@@ -47,7 +47,7 @@ loop-again c =
 
 -- the row, from where its end has been taken over
 abbrev row-of : tie.After-state2 Inv-loop μ-loop → tie.After-write-apart Inv-loop μ-loop
-row-of c = c .before .before .before .before .before
+row-of c = c .before .before .before .before .before .before .before
 
 returns : tie.Need-returns Inv-loop μ-loop
 returns c =
@@ -83,13 +83,16 @@ take-steps-spec =
     (λ c. omega arith)
     (λ c. omega arith)
     (λ c. omega arith)
+    (λ c. omega arith)
     loop-again
     (λ c κs. search needs)
+    (λ c. omega arith)
     (λ c. omega arith)
     (λ c. omega arith)
     returns
     (λ c. omega arith)
     loop-again-2
+    (λ c. omega arith)
     (λ c. omega arith)
     (λ c. omega arith)
     returns-2)

@@ -24,21 +24,22 @@ record Going (once : Bool) (from : ℕ) (a b : List ℕ) (l₀ : Lent) (state₀
   goes-on : GoesOn once (zip a b) from state₀ l₀ (record { state = state; end = i; over = false }) l
 
 abbrev Inv-loop : tie.InvT-loop
-Inv-loop once from a b words₀ marks₀ state₀ i₀ words marks state i = Going once from a b (lent words₀ marks₀) state₀ (lent words marks) state i
+Inv-loop once from a b words₀ marks₀ which₀ state₀ i₀ words marks which state i =
+    Going once from a b (lent words₀ marks₀ which₀) state₀ (lent words marks which) state i
 
 abbrev μ-loop : tie.MeasureT-loop
-μ-loop once from a b words₀ marks₀ state₀ i₀ words marks state i = length a - i
+μ-loop once from a b words₀ marks₀ which₀ state₀ i₀ words marks which state i = length a - i
 
 -- what is looked at from further on: the start, and the loop at the sample that is taken
 abbrev start-of : tie.At-loop Inv-loop μ-loop → tie.Start Inv-loop μ-loop
-start-of c = c .before .before .before .before .before
+start-of c = c .before .before .before .before .before .before
 
-abbrev loop-of : tie.After-word Inv-loop μ-loop → tie.In-loop Inv-loop μ-loop
-loop-of c = c .before .before .before .before .before .before .before .before .before
+abbrev loop-of : tie.After-which Inv-loop μ-loop → tie.In-loop Inv-loop μ-loop
+loop-of c = c .before .before .before .before .before .before .before .before .before .before
 
 loop-holds : tie.Need-loop-holds Inv-loop μ-loop
 loop-holds c =
-    let pre = c .before .before .before .before .pre in
+    let pre = c .before .before .before .before .before .pre in
     record { begun = omega arith; within = omega arith; as-long = pre .0; goes-on = λ s₀ l₀ p. p }
 
 -- the row has a first sample, so that samples which agree stand past it
@@ -57,12 +58,15 @@ returns c =
     ((past-first at-loop (c .if1 .taken), inv .within), inv .goes-on)
 
 -- the step that the clauses take on sample i, the slices before it, and with what is stored of it
-module _ (c : tie.After-word Inv-loop μ-loop) where
+module _ (c : tie.After-which Inv-loop μ-loop) where
   abbrev at-loop : tie.At-loop Inv-loop μ-loop
   at-loop = loop-of c .before
 
+  abbrev worded : tie.After-word Inv-loop μ-loop
+  worded = c .before
+
   abbrev marked : tie.After-mark Inv-loop μ-loop
-  marked = c .before .before
+  marked = worded .before .before
 
   abbrev taken : tie.After-clauses Inv-loop μ-loop
   taken = marked .before
@@ -71,20 +75,21 @@ module _ (c : tie.After-word Inv-loop μ-loop) where
   step = taken .clauses .result
 
   abbrev slices : Lent
-  slices = let l = at-loop .loop in lent (l .words) (l .marks)
+  slices = let l = at-loop .loop in lent (l .words) (l .marks) (l .which)
 
   abbrev written : Lent
-  written = let l = at-loop .loop in lent (set (l .words) (l .i) (c .word .result)) (set (l .marks) (l .i) (marked .mark .result))
+  written = let l = at-loop .loop in
+      lent (set (l .words) (l .i) (worded .word .result)) (set (l .marks) (l .i) (marked .mark .result)) (set (l .which) (l .i) (c .which .result))
 
   is-stored : written ≡ stored slices (at-loop .loop .i) step
-  is-stored = stored-as slices (at-loop .loop .i) step (c .word .ensures) (marked .mark .ensures)
+  is-stored = stored-as slices (at-loop .loop .i) step (worded .word .ensures) (marked .mark .ensures) (c .which .ensures)
 
   more-long : let x = start-of at-loop .args in AsLong (x .a .now) (x .b .now) written
   more-long = stored-long slices (at-loop .loop .i) step is-stored (at-loop .loop .inv .as-long)
 
   more-taken : let x = start-of at-loop .args in
       let next : VoteRow = record { state = step .state; end = at-loop .loop .i + 1; over = x .once && eqb (marked .mark .result) 2 } in
-      GoesOn (x .once) (zip (x .a .now) (x .b .now)) (x .from) (x .start) (lent (x .words .now) (x .marks .now)) next written
+      GoesOn (x .once) (zip (x .a .now) (x .b .now)) (x .from) (x .start) (lent (x .words .now) (x .marks .now) (x .which .now)) next written
   more-taken s₀ l₀ p =
       let inv = at-loop .loop .inv in
       one-taken _ s₀ _ _ (inv .as-long .second-long) l₀ slices _ _ step _ _ (taken .clauses .ensures) (marked .mark .ensures) is-stored
@@ -121,6 +126,7 @@ write-apart-spec =
     (λ c. omega arith)
     (λ c. omega arith)
     (λ c. omega arith)
+    (λ c. omega arith)
     returns
     (λ c. search needs)
     (λ c. omega arith)
@@ -132,12 +138,16 @@ write-apart-spec =
     (λ c. search needs)
     (λ c. omega arith)
     (λ c. omega arith)
+    (λ _ _. tt)
     (λ c. omega arith)
+    (λ c. omega arith)
+    (λ c. simp length-set (omega arith))
     (λ c. simp length-set (omega arith))
     (λ c. simp length-set (omega arith))
     returns-2
     (λ c. omega arith)
     loop-again
+    (λ c. omega arith)
     (λ c. omega arith)
     (λ c. omega arith)
     returns-3)
