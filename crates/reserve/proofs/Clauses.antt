@@ -20,8 +20,8 @@ use Rattle.reserve.specs.Run.{Sample, stepped, shownWord, shownMark}
 -- an answer hands over exactly when it is marked as an alarm
 pub phase-is : (r : VoteAnswer) → phaseAfter r ≡ (if eqb (markOf r) 2 then TakingOver else Primary)
 phase-is (Agreed w) = refl
-phase-is (Held w) = refl
-phase-is (Alarm w) = refl
+phase-is (Held w u) = refl
+phase-is (Alarm w u) = refl
 phase-is (Refused k) = refl
 
 module _ (s : Reserve) (x : Sample) where

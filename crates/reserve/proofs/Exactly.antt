@@ -52,13 +52,13 @@ pub step-number : (s : Reserve) (a b c d : ℕ) → numberOf (stepOf s a b c d .
 unfolding stepOf
 step-number s a b c d = own-number (λ (t : ReserveStep). numberOf (t .answer)) (first (rowsOf s a b c d)) (notTaken s) (clauses s a b c d) (λ k. refl) (none-refused s a b c d)
 
-module _ (n need word : ℕ) (a b c d words marks : List ℕ) where
+module _ (n need word : ℕ) (a b c d words marks which : List ℕ) where
   abbrev answered : RunAnswer
-  answered = answerOf n need word a b c d words marks
+  answered = answerOf n need word a b c d words marks which
 
   pub run-exactly :
       (k : ℕ) → (runNumber answered ≡ k)
-      ↔ Given k (runRows (badCount need) n word (longFour a b c d) (apartFour a b c d (unequal a words marks)) (somewhere (outsideFour n) (samplesOf a b c d)))
+      ↔ Given k (runRows (badCount need) n word (longFour a b c d) (apartFour a b c d (unequal a words marks which)) (somewhere (outsideFour n) (samplesOf a b c d)))
   run-exactly = runs.answer-exactly _ _ _ _ _ outsideFour (samplesOf a b c d)
 
   -- 6 comes with the smallest sample outside the width, and any other number with sample 0
@@ -69,6 +69,6 @@ module _ (n need word : ℕ) (a b c d words marks : List ℕ) where
   run-others = runs.other-zero _ _ _ _ _ outsideFour (samplesOf a b c d)
 
 -- an empty trace is accepted; as there is no place, nothing is written
-pub empty-taken : (n need word : ℕ) → Makes (badCount need) n word → answerOf n need word [] [] [] [] [] [] ≡ Done
+pub empty-taken : (n need word : ℕ) → Makes (badCount need) n word → answerOf n need word [] [] [] [] [] [] [] ≡ Done
 unfolding zip
 empty-taken n need word = runs.empty-done outsideFour (badCount need) n word

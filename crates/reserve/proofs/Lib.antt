@@ -1,4 +1,6 @@
 pub mod Alarms
+pub mod ByRun
+pub mod Bytes
 pub mod Clauses
 pub mod Exactly
 pub mod HandOver

@@ -13,7 +13,7 @@ use borrow.Rule.Slice.PartMut.{putMid, post-is}
 use Rattle.rules.specs.Choose.{if_then_else_}
 use Rattle.trace.specs.Trace.{trace, left}
 use Rattle.trace.proofs.Columns.{zip-length, zip-at, zip-drop}
-use Rattle.vote.specs.Answers.{wordOf, markOf}
+use Rattle.vote.specs.Answers.{wordOf, markOf, whichOf}
 use Rattle.vote.specs.Parts.{takenBy, Parts, Lent, AsLong, Shown, Taken}
 use Rattle.vote.specs.Run as voteRun
 use Rattle.vote.specs.Vote as vote
@@ -92,7 +92,7 @@ module _ (g : VoteAnswer → ℕ) where
 -- the steps of `vote::columns::write_steps` on units 1 and 2, and those from the hand-over on, are the run
 module _
     (s : Reserve) (primary : s .phase ≡ Primary) (a b c d : List ℕ) (l₀ l : Lent) (long : AsLong a b l₀) (ac : length a ≡ length c) (ad : length a ≡ length d)
-    {r : VotePart} (wrote : Parts true (s .vote) a b (l₀ .words) (l₀ .marks) r (l .words) (l .marks)) where
+    {r : VotePart} (wrote : Parts true (s .vote) a b (l₀ .words) (l₀ .marks) (l₀ .which) r (l .words) (l .marks) (l .which)) where
   taken : Taken true (s .vote) (zip a b) l₀ (r .end) (r .state) true l
   taken = as-taken true (s .vote) a b l₀ l long r wrote
 
@@ -114,10 +114,15 @@ module _
       → take (r .end) l ++ map (ofVote g) (tookOver (r .state) (drop (r .end) (zip c d))) ≡ map (ofReserve g) (steps s (samplesOf a b c d))
   in-two g q = rw (q .shown) (shown g)
 
-  pub in-parts-shown : (words′ marks′ : List ℕ) → TookOver (r .state) (r .end) c d (l .words) (l .marks) words′ marks′ → Wrote s a b c d words′ marks′
-  in-parts-shown words′ marks′ o =
+  pub in-parts-shown :
+      (words′ marks′ which′ : List ℕ) → TookOver (r .state) (r .end) c d (l .words) (l .marks) (l .which) words′ marks′ which′ → Wrote s a b c d words′ marks′ which′
+  in-parts-shown words′ marks′ which′ o =
       let w = taken .written in
-      record { words-after = o .words-after ∙ in-two wordOf (w .in-words); marks-after = o .marks-after ∙ in-two markOf (w .in-marks) }
+      record {
+        words-after = o .words-after ∙ in-two wordOf (w .in-words);
+        marks-after = o .marks-after ∙ in-two markOf (w .in-marks);
+        which-after = o .which-after ∙ in-two whichOf (w .in-which);
+      }
 
   -- without a hand-over before the end, units 1 and 2 are all
   module _ (all : length a ≤ r .end) where
@@ -127,8 +132,10 @@ module _
         let past : length (zip c d) ≤ r .end = omega (arith, zip-length c d (omega arith)) in
         rw (drop-of-length-le (zip c d) past, take-all (r .end) l (omega (arith, q .long, as-long)), append-nil) at (in-two g q)
 
-    pub in-one-shown : Wrote s a b c d (l .words) (l .marks)
-    in-one-shown = let w = taken .written in record { words-after = in-one wordOf (w .in-words); marks-after = in-one markOf (w .in-marks) }
+    pub in-one-shown : Wrote s a b c d (l .words) (l .marks) (l .which)
+    in-one-shown =
+        let w = taken .written in
+        record { words-after = in-one wordOf (w .in-words); marks-after = in-one markOf (w .in-marks); which-after = in-one whichOf (w .in-which) }
 
 -- the rest of a slice is put in the place of all that stands from k on
 put-rest : (k : ℕ) (l m : List ℕ) → k ≤ length l → putMid k (length l - k) l m ≡ take k l ++ m

@@ -19,7 +19,7 @@ use Rattle.vote.proofs.Stepwise as voteSteps
 use Rattle.reserve.specs.declared.Reserve.{Reserve}
 use Rattle.reserve.specs.declared.ReserveStep.{ReserveStep}
 use Rattle.reserve.specs.Reserve.{fresh, made, notMade, madeOf, stepOf}
-use Rattle.reserve.specs.Run.{leaves, Sample, stepped, publicStep, steps, publicSteps, shownWord, shownMark, samplesOf, Ran, Stepwise}
+use Rattle.reserve.specs.Run.{leaves, Sample, stepped, publicStep, steps, publicSteps, shownWord, shownMark, shownWhich, samplesOf, Ran, Stepwise}
 use Rattle.reserve.proofs.Clauses.{either-pair}
 
 -- on a state whose vote is sound, with words inside the width, the public step is the clauses
@@ -50,9 +50,9 @@ same-steps n need word m xs inside =
     (step-is-clauses n) (sound-next n) ((0, 0), (0, 0)) (fresh n need word) xs (voteSteps.fresh-sound n need word m) inside)
 
 pub run-is-steps :
-    (n need word : ℕ) (a b c d words marks words′ marks′ : List ℕ)
-    → Ran n need word a b c d words marks Done words′ marks′ → Stepwise n need word a b c d words′ marks′
-run-is-steps n need word a b c d words marks words′ marks′ ran =
+    (n need word : ℕ) (a b c d words marks which words′ marks′ which′ : List ℕ)
+    → Ran n need word a b c d words marks which Done words′ marks′ which′ → Stepwise n need word a b c d words′ marks′ which′
+run-is-steps n need word a b c d words marks which words′ marks′ which′ ran =
     let xs = samplesOf a b c d in
     let fine = answer-done _ _ _ _ _ outsideFour xs (sym (ran .answered)) in
     let m = run-makes _ _ _ _ _ _ fine in
@@ -61,4 +61,5 @@ run-is-steps n need word a b c d words marks words′ marks′ ran =
       made = rw (made-fresh n need word m);
       words-same = ran .words-after ∙ ap (map shownWord) same;
       marks-same = ran .marks-after ∙ ap (map shownMark) same;
+      which-same = ran .which-after ∙ ap (map shownWhich) same;
     }

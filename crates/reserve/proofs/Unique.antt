@@ -12,7 +12,7 @@ use Rattle.trace.specs.declared.RunAnswer.{RunAnswer}
 use Rattle.reserve.specs.Pairs.{pairsIn}
 use Rattle.reserve.specs.Reserve
 use Rattle.reserve.specs.Reserve.{fresh, madeOf, stepOf}
-use Rattle.reserve.specs.Run.{steps, shownWord, shownMark, samplesOf, answerOf}
+use Rattle.reserve.specs.Run.{steps, shownWord, shownMark, shownWhich, samplesOf, answerOf}
 use Rattle.reserve.proofs.Reserve.from_word.Reads as from-word
 use Rattle.reserve.proofs.Reserve.new.Reads as new
 use Rattle.reserve.proofs.Reserve.clauses.Reads as clauses
@@ -30,26 +30,27 @@ pub clauses-unique : Fixes (clauses.Learnt tt) (λ z e. z) (λ a. Reserve.clause
 clauses-unique = fixes (λ a z e p. p)
 
 pub step-unique : Fixes (step.Learnt tt) (λ z e. z) (λ a. stepOf (a .0) (a .1 .0) (a .1 .1 .0) (a .1 .1 .1 .0) (a .1 .1 .1 .1 .0))
-step-unique = fixes (λ a z e p. p)
+step-unique = fixes (λ a z e p. p .0)
 
--- a run: its answer, and the words and marks as it leaves them
+-- a run: its answer, and each slice as it leaves it
 abbrev pub Seen : Type 0
-Seen = RunAnswer × List ℕ × List ℕ
+Seen = RunAnswer × List ℕ × List ℕ × List ℕ
 
-abbrev pub ran : ℕ → ℕ → ℕ → List ℕ → List ℕ → List ℕ → List ℕ → List ℕ → List ℕ → Seen
-ran n need w a b c d words marks =
-    let r = answerOf n need w a b c d words marks in
+abbrev pub ran : ℕ → ℕ → ℕ → List ℕ → List ℕ → List ℕ → List ℕ → List ℕ → List ℕ → List ℕ → Seen
+ran n need w a b c d words marks which =
+    let r = answerOf n need w a b c d words marks which in
     let taken = steps (fresh n need w) (samplesOf a b c d) in
-    (r, after r words (map shownWord taken), after r marks (map shownMark taken))
+    (r, after r words (map shownWord taken), after r marks (map shownMark taken), after r which (map shownWhich taken))
 
 pub run-unique :
-    (κs : Lfts 6)
+    (κs : Lfts 7)
     → Fixes {O = Seen} (run.Learnt κs)
-    (λ z e. let lent = e .1 .1 .1 .1 .1 .1 .1 in (z, now (lent .0), now (lent .1 .0)))
+    (λ z e. let lent = e .1 .1 .1 .1 .1 .1 .1 in (z, now (lent .0), now (lent .1 .0), now (lent .1 .1 .0)))
     (λ a.
     let units = a .1 .1 .1 in
     let lent = units .1 .1 .1 .1 in
-    ran (a .0) (a .1 .0) (a .1 .1 .0) (now (units .0)) (now (units .1 .0)) (now (units .1 .1 .0)) (now (units .1 .1 .1 .0)) (now (lent .0)) (now (lent .1 .0)))
+    ran (a .0) (a .1 .0) (a .1 .1 .0) (now (units .0)) (now (units .1 .0)) (now (units .1 .1 .0)) (now (units .1 .1 .1 .0))
+    (now (lent .0)) (now (lent .1 .0)) (now (lent .1 .1 .0)))
 run-unique κs = fixes (λ a z e p. cc)
 
 -- the pairs, told from marks: the slice as it is left

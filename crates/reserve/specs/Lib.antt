@@ -4,3 +4,4 @@ pub mod Pairs
 pub mod Parts
 pub mod Reserve
 pub mod Run
+pub mod Voted

@@ -23,8 +23,8 @@ fresh n need word = record { phase = Primary; vote = vote.fresh n need word }
 -- an alarm there makes the next step "taking over"
 abbrev pub phaseAfter : VoteAnswer → Phase
 phaseAfter (Agreed w) = Primary
-phaseAfter (Held w) = Primary
-phaseAfter (Alarm w) = TakingOver
+phaseAfter (Held w u) = Primary
+phaseAfter (Alarm w u) = TakingOver
 phaseAfter (Refused k) = Primary
 
 -- primary uses units 1 and 2, without a reset
@@ -35,7 +35,8 @@ firstPair t = record { state = record { phase = phaseAfter (t .answer); vote = t
 abbrev pub secondPair : VoteStep → ReserveStep
 secondPair t = record { state = record { phase = Reserved; vote = t .state }; answer = t .answer; pair = 2 }
 
--- the vote of the pair in force
+-- the vote of the pair in force; its answer is handed on, which unit of that pair still shows the last agreed word (T-09) with it. That
+-- word is the one agreed before, by whichever pair: a hand-over keeps the state of the vote
 abbrev pub inPhase : Phase → Vote → ℕ → ℕ → ℕ → ℕ → ReserveStep
 -- primary: units 1 and 2, no reset
 inPhase Primary v a b c d = firstPair (vote.clauses v a b false)

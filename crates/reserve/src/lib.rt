@@ -10,9 +10,10 @@ ghost use Prim.Native.Nat.{_<_};
 ghost use lib.ListN.{length};
 ghost use Rattle.rules.specs.Limits.{defaultWord};
 ghost use Rattle.vote.specs.Parts.{lent, AsLong};
+ghost use Rattle.vote.specs.Which.{NotNeither};
 ghost use Rattle.reserve.specs.Parts.{TookOver, Wrote};
 ghost use Rattle.reserve.specs.Reserve.{phaseAfter, firstPair, secondPair, clauses, madeOf, stepOf};
-ghost use Rattle.reserve.specs.Run.{Ran};
+ghost use Rattle.reserve.specs.Run.{Ran, shownWhich};
 
 // Which pair is in force: units 1 and 2; units 3 and 4 with a reset, for one step; units 3 and 4 for ever.
 pub enum Phase {
@@ -33,7 +34,7 @@ pub struct ReserveMade {
     pub refusal: u32,
 }
 
-// A step's answer and the pair that was voted on, 1 or 2, beside the state that it leaves; a refused step votes on none, 0.
+// A step's answer, its unit one of the pair that was voted on, and that pair, 1 or 2, beside the state that it leaves; a refused step votes on none, 0.
 pub struct ReserveStep {
     pub state: Reserve,
     pub answer: VoteAnswer,
@@ -46,8 +47,8 @@ fn phase_after(answer: VoteAnswer) -> Phase
 {
     match answer {
         VoteAnswer::Agreed(_) => Phase::Primary,
-        VoteAnswer::Held(_) => Phase::Primary,
-        VoteAnswer::Alarm(_) => Phase::TakingOver,
+        VoteAnswer::Held(_, _) => Phase::Primary,
+        VoteAnswer::Alarm(_, _) => Phase::TakingOver,
         VoteAnswer::Refused(_) => Phase::Primary,
     }
 }
@@ -120,6 +121,7 @@ impl Reserve {
     // One step. A refused one returns the state it got. The words of all four units are inside the width, or it is refused.
     pub fn step(self, a: u32, b: u32, c: u32, d: u32) -> ReserveStep
         ensures { λ r. ⌜ r ≡ stepOf self a b c d ⌝ }
+        ensures { λ r. ⌜ NotNeither (self .vote .n) (shownWhich r) ⌝ }
     {
         let vote = self.vote;
         let sample = (a | b) | (c | d);
@@ -138,16 +140,25 @@ impl Reserve {
 }
 
 // A step for each sample from a hand-over on, at sample `over`: what each shows is written. The first is with a reset.
-fn take_over(alarmed: Vote, over: usize, c: &[u32], d: &[u32], words: &mut [u32], marks: &mut [u8])
+fn take_over(
+    alarmed: Vote,
+    over: usize,
+    c: &[u32],
+    d: &[u32],
+    words: &mut [u32],
+    marks: &mut [u8],
+    which: &mut [u8],
+)
     requires { ⌜ over < length (now c) ⌝ }
-    requires { ⌜ AsLong (now c) (now d) (lent (now words) (now marks)) ⌝ }
-    ensures { λ _. ⌜ TookOver alarmed over (now (c .entry)) (now (d .entry)) (now (words .entry)) (now (marks .entry))
-        (now (words .exit)) (now (marks .exit)) ⌝ }
+    requires { ⌜ AsLong (now c) (now d) (lent (now words) (now marks) (now which)) ⌝ }
+    ensures { λ _. ⌜ TookOver alarmed over (now (c .entry)) (now (d .entry)) (now (words .entry)) (now (marks .entry)) (now (which .entry))
+        (now (words .exit)) (now (marks .exit)) (now (which .exit)) ⌝ }
 {
     let taken = alarmed.clauses(c[over], d[over], true);
     let answer = taken.answer;
     words[over] = answer.word();
     marks[over] = answer.mark();
+    which[over] = answer.which();
     let rest = over + 1;
     vote::columns::write_steps(
         taken.state,
@@ -156,6 +167,7 @@ fn take_over(alarmed: Vote, over: usize, c: &[u32], d: &[u32], words: &mut [u32]
         &d[rest..],
         &mut words[rest..],
         &mut marks[rest..],
+        &mut which[rest..],
     );
 }
 
@@ -169,17 +181,18 @@ fn write_steps(
     d: &[u32],
     words: &mut [u32],
     marks: &mut [u8],
+    which: &mut [u8],
 )
-    requires { ⌜ AsLong (now a) (now b) (lent (now words) (now marks)) ⌝ }
+    requires { ⌜ AsLong (now a) (now b) (lent (now words) (now marks) (now which)) ⌝ }
     requires { ⌜ (length (now a) ≡ length (now c)) × (length (now a) ≡ length (now d)) ⌝ }
     requires { ⌜ start .phase ≡ Phase.Primary ⌝ }
     ensures { λ _. ⌜ Wrote start (now (a .entry)) (now (b .entry)) (now (c .entry)) (now (d .entry))
-        (now (words .exit)) (now (marks .exit)) ⌝ }
+        (now (words .exit)) (now (marks .exit)) (now (which .exit)) ⌝ }
 {
-    let primary = vote::columns::write_steps(start.vote, true, a, b, words, marks);
+    let primary = vote::columns::write_steps(start.vote, true, a, b, words, marks, which);
     let over = primary.end;
     if over < a.len() {
-        take_over(primary.state, over, c, d, words, marks);
+        take_over(primary.state, over, c, d, words, marks, which);
     }
 }
 
@@ -194,17 +207,18 @@ pub fn run(
     d: &[u32],
     words: &mut [u32],
     marks: &mut [u8],
+    which: &mut [u8],
 ) -> RunAnswer
     ensures { λ r. ⌜ Ran n need word (now (a .entry)) (now (b .entry)) (now (c .entry)) (now (d .entry))
-        (now (words .entry)) (now (marks .entry)) r (now (words .exit)) (now (marks .exit)) ⌝ }
+        (now (words .entry)) (now (marks .entry)) (now (which .entry)) r (now (words .exit)) (now (marks .exit)) (now (which .exit)) ⌝ }
 {
     let len = a.len();
-    let unequal = (len != words.len()) | (len != marks.len());
+    let unequal = (len != words.len()) | (len != marks.len()) | (len != which.len());
     let answer = trace::judge_four(rules::bad_count(need), n, word, a, b, c, d, unequal);
     let RunAnswer::Done = answer else {
         return answer;
     };
     let start = Reserve::from_word(n, need, word).state;
-    write_steps(start, a, b, c, d, words, marks);
+    write_steps(start, a, b, c, d, words, marks, which);
     RunAnswer::Done
 }

@@ -31,18 +31,19 @@ use Rattle.vote.proofs.Clauses.{byTests}
 use Rattle.vote.proofs.Stepwise.{Sound, sound-next, fresh-sound}
 
 -- a step keeps the word that is agreed then, and so samples leave the last agreed word of the samples
-word-kept : (s : Vote) (x : ℕ × ℕ) → leaves (plain s x) .word ≡ (if equal x then x .0 else s .word)
+pub word-kept : (s : Vote) (x : ℕ × ℕ) (reset : Bool) → clauses s (x .0) (x .1) reset .state .word ≡ (if equal x then x .0 else s .word)
 unfolding clauses
-word-kept s x = go (equal x) (ltb (s .count) (s .need - 1)) where
-  go : (p r : Bool) → byTests s (x .0) (x .1) p false r .state .word ≡ (if p then x .0 else s .word)
-  go true r = refl
-  go false true = refl
-  go false false = refl
+word-kept s x reset = go (equal x) reset (ltb (s .count) (s .need - 1)) where
+  go : (p q r : Bool) → byTests s (x .0) (x .1) p q r .state .word ≡ (if p then x .0 else s .word)
+  go true q r = refl
+  go false true r = refl
+  go false false true = refl
+  go false false false = refl
 
 left-agreed : (s : Vote) (xs : List (ℕ × ℕ)) → left plain leaves s xs .word ≡ lastAgreed (s .word) xs
 unfolding left lastAgreed
 left-agreed s [] = refl
-left-agreed s (x ∷ xs) = left-agreed (leaves (plain s x)) xs ∙ ap (λ (w : ℕ). lastAgreed w xs) (word-kept s x)
+left-agreed s (x ∷ xs) = left-agreed (leaves (plain s x)) xs ∙ ap (λ (w : ℕ). lastAgreed w xs) (word-kept s x false)
 
 -- which word that is: of the last sample that agreed, and the initial word if none did
 pub never-agreed : (word : ℕ) (xs : List (ℕ × ℕ)) → ((k : ℕ) → k < length xs → equal (getD xs k (0, 0)) ≡ false) → lastAgreed word xs ≡ word

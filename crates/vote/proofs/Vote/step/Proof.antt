@@ -31,7 +31,7 @@ unfolding stepOf
 ways s a b reset =
     by-one-test (badCount (s .need)) (ltb (s .need - 1) (s .count)) (s .n) (bitOr a b) (s .word) refl (outside-or (s .n) a b) refl (notTaken s) (clauses s a b reset)
 
--- so both parts of the promise
+-- what is the definition's step meets both parts of the promise
 promised : (s : Vote) (a b : ℕ) (reset : Bool) {t : VoteStep} → t ≡ stepOf s a b reset → (t ≡ stepOf s a b reset) × NotNeither (s .n) (shownWhich t)
 promised s a b reset e = (e, rw e (step-not-neither s a b reset))
 
