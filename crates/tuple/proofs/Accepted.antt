@@ -22,28 +22,30 @@ use Rattle.tuple.specs.Run.{unequal, answerOf}
 use Rattle.tuple.specs.Tuple.{badCounts, fresh}
 use Rattle.tuple.proofs.Sound.{Sound, fresh-sound}
 
-pub record Accepted (n : ℕ) (start : Tuple) (a b words masks marks : List ℕ) : Type 0 where
+pub record Accepted (n : ℕ) (start : Tuple) (a b words masks marks seconds : List ℕ) : Type 0 where
   pub few : length a ≤ 2048
   pub second-long : length a ≡ length b
   pub words-long : length a ≡ length words
   pub masks-long : length a ≡ length masks
   pub marks-long : length a ≡ length marks
+  pub seconds-long : length a ≡ length seconds
   pub start-sound : Sound n start
   pub inside : (i : ℕ) → i < length a → (outside n (getD a i 0) ≡ false) × (outside n (getD b i 0) ≡ false)
 
-module _ (n votes need word : ℕ) (a b words masks marks : List ℕ) (accepted : answerOf n votes need word a b words masks marks ≡ Done) where
-  pub fine : Runs (badCounts votes need) n word (longPair a b) (apartPair a b (unequal a words masks marks)) (somewhere (outsidePair n) (zip a b))
+module _ (n votes need word : ℕ) (a b words masks marks seconds : List ℕ) (accepted : answerOf n votes need word a b words masks marks seconds ≡ Done) where
+  pub fine : Runs (badCounts votes need) n word (longPair a b) (apartPair a b (unequal a words masks marks seconds)) (somewhere (outsidePair n) (zip a b))
   fine = answer-done _ _ _ _ _ outsidePair (zip a b) accepted
 
-  pub accept : Accepted n (fresh n votes need word) a b words masks marks
+  pub accept : Accepted n (fresh n votes need word) a b words masks marks seconds
   accept =
-      let all = or-each (same _ _) (or-each (or-each (same _ _) (same _ _)) (same _ _)) (fine .alike) in
+      let all = or-each (same _ _) (or-each (or-each (or-each (same _ _) (same _ _)) (same _ _)) (same _ _)) (fine .alike) in
       record {
         few = ltb-false 2048 (length a) (or-neither (tooLong (length a)) (tooLong (length b)) (fine .short) .0);
         second-long = all .0;
-        words-long = all .1 .0 .0;
-        masks-long = all .1 .0 .1;
-        marks-long = all .1 .1;
+        words-long = all .1 .0 .0 .0;
+        masks-long = all .1 .0 .0 .1;
+        marks-long = all .1 .0 .1;
+        seconds-long = all .1 .1;
         start-sound = fresh-sound n votes need word (run-makes _ _ _ _ _ _ fine);
         inside = λ i l.
             let none = nowhere (outsidePair n) (zip a b) (0, 0) (fine .samples-in) i (omega (arith, zip-length a b (all .0))) in

@@ -19,7 +19,7 @@ use Rattle.rules.specs.Signals.{asWord, asList}
 use Rattle.rules.proofs.Signals.{bit-small, word-none, word-bit, word-small, word-ends, place-below, place-above, places-length}
 use Rattle.rules.proofs.Width.{inside-lt, high-zero, words-agree}
 use Rattle.tuple.specs.declared.Voters.{Voters}
-use Rattle.tuple.specs.Disagreement.{bitBy, countBy, alarmBy, votersBy}
+use Rattle.tuple.specs.Disagreement.{bitBy, countBy, alarmBy, secondBy, votersBy}
 use Rattle.tuple.proofs.Small.{zeros}
 
 pub zero-bit : (i : ℕ) → bit i 0 ≡ 0
@@ -65,6 +65,11 @@ module _
         let f : ℕ → ℕ = λ i. alarmBy need (getD counts i 0) (bit i 0) in
         word-none f ∙ sym (word-ends f 0 n (omega arith) (λ i l. silent need (getD counts i 0) (zero-bit i)))
 
+    none-second : 0 ≡ asWord n (λ i. secondBy (bit i a) (bit i agreed) (bit i 0))
+    none-second =
+        let f : ℕ → ℕ = λ i. secondBy (bit i a) (bit i agreed) (bit i 0) in
+        word-none f ∙ sym (word-ends f 0 n (omega arith) (λ i l. rw (zero-bit i)))
+
     none-counts : replicate 32 0 ≡ after n 0
     none-counts =
         sym (ext-getD 0 (after n 0) (replicate 32 0) (as-long n 0 wide)
@@ -72,8 +77,8 @@ module _
         (λ h. below n 0 i h ∙ count-zero need (getD counts i 0) (zero-bit i) ∙ sym (zeros 32 i))
         (λ h. rest 0 i (omega arith) (rw (as-long n 0 wide) at l) ∙ sym (zeros 32 i))))
 
-    pub agreeing : _≡_ {A = Voters} (record { word = a; mask = 0; counts = replicate 32 0 }) (votersBy n need agreed counts a 0)
-    agreeing = rw (← word-taken, ← none-alarms, ← none-counts)
+    pub agreeing : _≡_ {A = Voters} (record { word = a; mask = 0; second = 0; counts = replicate 32 0 }) (votersBy n need agreed counts a 0)
+    agreeing = rw (← word-taken, ← none-alarms, ← none-second, ← none-counts)
 
     -- the signals that disagree are among the n
     pub all-places : (d : ℕ) → outside n d ≡ false → votersBy 32 need agreed counts a d ≡ votersBy n need agreed counts a d
@@ -81,8 +86,9 @@ module _
         let agrees : (i : ℕ) → n ≤ i → bit i d ≡ 0 = high-zero n d (inside-lt n d among) in
         let word = word-ends (λ i. bitBy (bit i a) (bit i agreed) (bit i d)) n 32 wide (λ i l. rw (agrees i l) (high-zero n a (inside-lt n a inside) i l)) in
         let mask = word-ends (λ i. alarmBy need (getD counts i 0) (bit i d)) n 32 wide (λ i l. silent need (getD counts i 0) (agrees i l)) in
+        let second = word-ends (λ i. secondBy (bit i a) (bit i agreed) (bit i d)) n 32 wide (λ i l. rw (agrees i l)) in
         let same : after 32 d ≡ after n d =
         ext-getD 0 (after 32 d) (after n d) (as-long 32 d (omega arith) ∙ sym (as-long n d wide))
         (λ i l. let m : i < 32 = rw (as-long 32 d (omega arith)) at l in
         below 32 d i m ∙ dite (decLt i n) (λ h. sym (below n d i h)) (λ h. count-zero need (getD counts i 0) (agrees i (omega arith)) ∙ sym (rest d i (omega arith) m))) in
-        rw (word, mask, same)
+        rw (word, mask, second, same)

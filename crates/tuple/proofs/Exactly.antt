@@ -56,13 +56,13 @@ pub step-number : (s : Tuple) (a b : ℕ) → numberOf (stepOf s a b .answer) �
 unfolding stepOf
 step-number s a b = own-number (λ (t : TupleStep). numberOf (t .answer)) (first (rowsOf s a b)) (notTaken s) (clauses s a b) (λ k. refl) (none-refused s a b)
 
-module _ (n votes need word : ℕ) (a b words masks marks : List ℕ) where
+module _ (n votes need word : ℕ) (a b words masks marks seconds : List ℕ) where
   abbrev answered : RunAnswer
-  answered = answerOf n votes need word a b words masks marks
+  answered = answerOf n votes need word a b words masks marks seconds
 
   pub run-exactly :
       (k : ℕ) → (runNumber answered ≡ k)
-      ↔ Given k (runRows (badCounts votes need) n word (longPair a b) (apartPair a b (unequal a words masks marks)) (somewhere (outsidePair n) (zip a b)))
+      ↔ Given k (runRows (badCounts votes need) n word (longPair a b) (apartPair a b (unequal a words masks marks seconds)) (somewhere (outsidePair n) (zip a b)))
   run-exactly = runs.answer-exactly _ _ _ _ _ outsidePair (zip a b)
 
   -- 6 comes with the smallest sample outside the width, and any other number with sample 0
@@ -73,6 +73,6 @@ module _ (n votes need word : ℕ) (a b words masks marks : List ℕ) where
   run-others = runs.other-zero _ _ _ _ _ outsidePair (zip a b)
 
 -- an empty trace is accepted; as there is no place, nothing is written
-pub empty-taken : (n votes need word : ℕ) → Makes (badCounts votes need) n word → answerOf n votes need word [] [] [] [] [] ≡ Done
+pub empty-taken : (n votes need word : ℕ) → Makes (badCounts votes need) n word → answerOf n votes need word [] [] [] [] [] [] ≡ Done
 unfolding zip
 empty-taken n votes need word = runs.empty-done outsidePair (badCounts votes need) n word

@@ -15,7 +15,7 @@ use Rattle.tuple.specs.declared.Voted.{Voted}
 use Rattle.tuple.specs.declared.Voters.{Voters}
 use Rattle.tuple.specs.Disagreement.{disagreement, votersBy}
 use Rattle.tuple.specs.Parts.{together, stepWith, Decides, Resting}
-use Rattle.tuple.specs.Run.{shownWord, shownMask}
+use Rattle.tuple.specs.Run.{shownWord, shownMask, shownSecond}
 use Rattle.tuple.specs.Tuple.{voteNeed, signalVote, voters, votersOf, decided, clauses}
 use Rattle.tuple.proofs.Agreeing.{agreeing}
 use Rattle.tuple.proofs.Clauses.{shown-stays, same-sizes}
@@ -28,6 +28,7 @@ pub record Taken (n need : ℕ) (s : Tuple) (a b : ℕ) (v : Voted) (counts : Li
   pub whole : stepWith s d v counts ≡ clauses s a b
   pub word-shown : d .confirm .output ≡ shownWord (stepWith s d v counts)
   pub mask-shown : v .mask ≡ shownMask (stepWith s d v counts)
+  pub second-shown : v .second ≡ shownSecond (stepWith s d v counts)
   pub as-long : length counts ≡ 32
   pub sound-left : Sound n (stepWith s d v counts .state)
   pub votes-left : voteNeed (stepWith s d v counts .state) ≡ need
@@ -55,10 +56,10 @@ module _ (n need : ℕ) (s : Tuple) (g : Sound n s) (votes : voteNeed s ≡ need
         let looked = voted ∙ sym (look n need (s .agreed) (s .counts) a b) ∙ ap (λ (d : ℕ). votersBy n need (s .agreed) (s .counts) a d) none in
         ap (λ (x : Voters). x .counts) (looked ∙ sym (agreeing n need (s .agreed) (s .counts) a wide long (above-zero n s g) inside))
 
-    module _ (d : Decided) (decides : Decides (s .confirm) v d) where
+    module _ (d : Decided) (decides : Decides (s .confirm) (v .word) (v .mask) d) where
       whole : stepWith s d v counts ≡ clauses s a b
       unfolding clauses
-      whole = sym (decides s counts refl) ∙ ap (decided s) of-state
+      whole = sym (decides s (v .second) counts refl) ∙ ap (decided s) of-state
 
       pub taken : Taken n need s a b v counts d
       taken =
@@ -66,6 +67,7 @@ module _ (n need : ℕ) (s : Tuple) (g : Sound n s) (votes : voteNeed s ≡ need
             whole = whole;
             word-shown = ap (λ (t : TupleStep). t .state .confirm .output) whole ∙ sym (shown-stays s a b) ∙ sym (ap shownWord whole);
             mask-shown = ap (λ (x : Voters). x .mask) of-state ∙ sym (mask-shown s a b) ∙ sym (ap shownMask whole);
+            second-shown = refl;
             as-long = as-long;
             sound-left = subst (λ (t : TupleStep). Sound n (t .state)) (sym whole) (sound-next n s g a b);
             votes-left = ap (λ (t : TupleStep). voteNeed (t .state)) whole ∙ same-sizes s a b .1 ∙ votes;

@@ -11,6 +11,8 @@ pub mod Ones
 pub mod PerSignal
 pub mod Rows
 pub mod Runs
+pub mod SecondRuns
+pub mod Seconds
 pub mod Small
 pub mod Sound
 pub mod Stepwise

@@ -24,14 +24,14 @@ use Rattle.tuple.proofs.Small.{alarm-small, masks-small}
 
 silent : (v : VoteAnswer) → (alarmBit v ≡ 0) ↔ (markOf v ≡ 2 → ⊥)
 silent (VoteAgreed w) = (λ e m. omega arith, λ h. refl)
-silent (VoteHeld w) = (λ e m. omega arith, λ h. refl)
-silent (VoteAlarm w) = (λ e m. omega arith, λ h. absurd (h refl))
+silent (VoteHeld w u) = (λ e m. omega arith, λ h. refl)
+silent (VoteAlarm w u) = (λ e m. omega arith, λ h. absurd (h refl))
 silent (VoteRefused k) = (λ e m. omega arith, λ h. refl)
 
 pub one-at : (v : VoteAnswer) → (alarmBit v ≡ 1) ↔ (markOf v ≡ 2)
 one-at (VoteAgreed w) = (λ e. absurd (omega arith), λ e. absurd (omega arith))
-one-at (VoteHeld w) = (λ e. absurd (omega arith), λ e. absurd (omega arith))
-one-at (VoteAlarm w) = (λ e. refl, λ e. refl)
+one-at (VoteHeld w u) = (λ e. absurd (omega arith), λ e. absurd (omega arith))
+one-at (VoteAlarm w u) = (λ e. refl, λ e. refl)
 one-at (VoteRefused k) = (λ e. absurd (omega arith), λ e. absurd (omega arith))
 
 module _ (s : Tuple) (a b : ℕ) where

@@ -1,9 +1,12 @@
--- T-02: with equal counts the tuple vote is the one that it was, with one count: its constructors, its steps and its runs.
-use mathlib.Core.Path.{_≡_, refl, ap, _∙_}
+-- T-02 and T-09: with equal counts, and T-09's word left out, the tuple vote is the one that it was before them, with one count: its
+-- constructors, its steps and its runs.
+use mathlib.Core.Path.{_≡_, refl, sym, ap, subst, _∙_}
 use mathlib.Core.List.{List, map, zip}
-use mathlib.Core.Bool.{Bool, true, false, not, _||_}
+use mathlib.Core.Bool.{Bool, true, false, not, _||_, or-false}
 use Prim.Native.Nat.{ℕ}
 use lib.Dec.{eqb}
+use lib.ListN.{length}
+use borrow.Author.Tests.{eq-eqb}
 use Rattle.rules.specs.Choose.{if_then_else_}
 use Rattle.rules.specs.Limits.{badCount}
 use Rattle.rules.specs.Table.{first, answer}
@@ -17,9 +20,9 @@ use Rattle.tuple.specs.declared.TupleStep.{TupleStep}
 use Rattle.tuple.specs.declared.Voters.{Voters}
 use Rattle.tuple.specs.Answers.{wordOf, maskOf, markOf}
 use Rattle.tuple.specs.OneCount as one
-use Rattle.tuple.specs.OneCount.{OneCount, OneStep, once, twice, twiceMade, twiceStep, column}
+use Rattle.tuple.specs.OneCount.{OneCount, OneStep, once, twice, twiceMade, AsBefore, column}
 use Rattle.tuple.specs.Run.{leaves, stepped, steps}
-use Rattle.tuple.specs.Tuple.{badCounts, clauses, madeOf, stepOf}
+use Rattle.tuple.specs.Tuple.{badCounts, clauses, madeOf, notTaken, stepOf}
 use Rattle.tuple.proofs.Clauses.{byTest}
 use Rattle.tuple.proofs.Unique.{ran}
 
@@ -45,21 +48,27 @@ module _ (s : OneCount) (a b : ℕ) where
   abbrev v : Voters
   v = one.votersOf s a b
 
-  same-clauses : clauses (twice s) a b ≡ twiceStep (one.clauses s a b)
+  same-clauses : AsBefore (clauses (twice s) a b) (one.clauses s a b)
   unfolding clauses one.clauses
   same-clauses = go (not (eqb (v .mask) 0)) where
-    go : (p : Bool) → byTest (twice s) v p ≡ twiceStep (if p then one.alarm s v else one.confirms s v (confirm.clauses (s .confirm) (v .word)))
-    go true = refl
-    go false = rw (confirm-sizes (s .confirm) (v .word) .1)
+    go : (p : Bool) → AsBefore (byTest (twice s) v p) (if p then one.alarm s v else one.confirms s v (confirm.clauses (s .confirm) (v .word)))
+    go true = record { state = refl; answer = refl }
+    go false = record { state = rw (confirm-sizes (s .confirm) (v .word) .1); answer = refl }
 
-  of-twice : stepOf (twice s) a b ≡ twiceStep (one.stepOf s a b)
+  of-twice : AsBefore (stepOf (twice s) a b) (one.stepOf s a b)
   unfolding stepOf one.stepOf
-  of-twice = rw (same-count (s .confirm .need), same-clauses) (retold twiceStep (first (one.rowsOf s a b)) (one.notTaken s) (one.clauses s a b))
+  of-twice = rw (same-count (s .confirm .need)) (go (eqb (first (one.rowsOf s a b)) 0)) where
+    number : ℕ
+    number = first (one.rowsOf s a b)
 
-pub same-step : (s : Tuple) (a b : ℕ) → s .votes ≡ s .confirm .need → stepOf s a b ≡ twiceStep (one.stepOf (once s) a b)
+    go : (p : Bool) → AsBefore (if p then clauses (twice s) a b else notTaken (twice s) number) (if p then one.clauses s a b else one.notTaken s number)
+    go true = same-clauses
+    go false = record { state = refl; answer = refl }
+
+pub same-step : (s : Tuple) (a b : ℕ) → s .votes ≡ s .confirm .need → AsBefore (stepOf s a b) (one.stepOf (once s) a b)
 same-step s a b equal =
-    ap (λ (votes : ℕ). stepOf (record { votes = votes; confirm = s .confirm; agreed = s .agreed; counts = s .counts }) a b) equal
-    ∙ of-twice (once s) a b
+    subst (λ (votes : ℕ). AsBefore (stepOf (record { votes = votes; confirm = s .confirm; agreed = s .agreed; counts = s .counts }) a b) (one.stepOf (once s) a b))
+    (sym equal) (of-twice (once s) a b)
 
 -- what a run shows, sample by sample
 pub same-column :
@@ -67,11 +76,14 @@ pub same-column :
     → map (λ (t : TupleStep). shown (t .answer)) (steps (twice s) xs) ≡ column shown s xs
 same-column shown s xs =
     follows-at stepped leaves one.stepped one.leaves (λ (t : TupleStep). shown (t .answer)) (λ (t : OneStep). shown (t .answer)) (0, 0) (0, 0)
-    (λ k (t : Tuple) (s : OneCount). t ≡ twice s) xs xs refl (λ k t s l e. rw (e, same-clauses s _ _) (refl, refl)) (twice s) s refl
+    (λ k (t : Tuple) (s : OneCount). t ≡ twice s) xs xs refl (λ k t s l e. let same = same-clauses s _ _ in rw e (same .state, ap shown (same .answer))) (twice s) s refl
 
--- a run with N for both counts; by `run-unique`, what meets the contract of `tuple::run`
-pub same-run : (n need word : ℕ) (a b words masks marks : List ℕ) → ran n need need word a b words masks marks ≡ one.ran n need word a b words masks marks
-same-run n need word a b words masks marks =
+-- a run with N for both counts; by `run-unique`, what meets the contract of `tuple::run`. Where the slice of T-09 is as long as the first
+-- column, its answer and the other slices are what they were
+pub same-run :
+    (n need word : ℕ) (a b words masks marks seconds : List ℕ) → length a ≡ length seconds → let now = ran n need need word a b words masks marks seconds in
+    (now .0, now .1, now .2, now .3) ≡ one.ran n need word a b words masks marks
+same-run n need word a b words masks marks seconds long =
     let start = one.fresh n need word in
     let xs = zip a b in
-    rw (same-count need, same-column wordOf start xs, same-column maskOf start xs, same-column markOf start xs)
+    rw (same-count need, same-column wordOf start xs, same-column maskOf start xs, same-column markOf start xs, eq-eqb _ _ long, or-false)

@@ -22,16 +22,14 @@ use Rattle.vote.proofs.Alarms.{alarm-exactly}
 use Rattle.tuple.specs.declared.Tuple.{Tuple}
 use Rattle.tuple.specs.declared.TupleAnswer.{TupleAnswer}
 use Rattle.tuple.specs.declared.TupleStep.{TupleStep}
-use Rattle.tuple.specs.Run.{leaves, stepped, steps, shownWord, shownMask}
-use Rattle.tuple.specs.Tuple.{width, fresh, voter, alarmBit, votersOf, confirmedAs, confirms, clauses}
+use Rattle.tuple.specs.Run.{leaves, stepped, steps, shownWord, shownMask, shownSecond}
+use Rattle.tuple.specs.Second.{signalOf}
+use Rattle.tuple.specs.Tuple.{width, fresh, voter, alarmBit, secondBit, votersOf, confirmedAs, confirms, clauses}
 use Rattle.tuple.proofs.Clauses.{same-sizes, voters-left}
 use Rattle.tuple.proofs.Masks.{one-at, mask-shown, mask-bit}
 use Rattle.tuple.proofs.PerSignal.{voter-fresh, per-signal}
+use Rattle.tuple.proofs.Seconds.{second-bit}
 use Rattle.tuple.proofs.Sound.{voted-inside}
-
--- signal i of both words of a sample
-abbrev pub signalOf : ℕ → ℕ × ℕ → ℕ × ℕ
-signalOf i x = (bit i (x .0), bit i (x .1))
 
 -- whatever a step shows of voter i alone, a run shows of the plain vote's run on signal i
 module _ (s : Tuple) (i : ℕ) (l : i < width s) (xs : List (ℕ × ℕ)) where
@@ -48,6 +46,9 @@ module _ (s : Tuple) (i : ℕ) (l : i < width s) (xs : List (ℕ × ℕ)) where
 
   pub mask-run : map (λ (t : TupleStep). bit i (shownMask t)) (steps s xs) ≡ map (λ (t : VoteStep). alarmBit (t .answer)) (voteRun.steps (voter s i) (map (signalOf i) xs))
   mask-run = followed (λ (t : TupleStep). bit i (shownMask t)) (λ (t : VoteStep). alarmBit (t .answer)) (λ t x h. mask-bit t (x .0) (x .1) i h)
+
+  pub second-run : map (λ (t : TupleStep). bit i (shownSecond t)) (steps s xs) ≡ map (λ (t : VoteStep). secondBit (t .answer)) (voteRun.steps (voter s i) (map (signalOf i) xs))
+  second-run = followed (λ (t : TupleStep). bit i (shownSecond t)) (λ (t : VoteStep). secondBit (t .answer)) (λ t x h. second-bit t (x .0) (x .1) i h)
 
 -- from any state, whatever the samples: the voters put together no word outside the width. It is what a step leaves as agreed
 pub voted-run :

@@ -12,8 +12,10 @@ use Rattle.rules.proofs.Signals.{bit-small, word-small}
 use Rattle.vote.specs.declared.VoteAnswer.{VoteAnswer}
 use Rattle.vote.specs.declared.VoteStep.{VoteStep}
 use Rattle.vote.specs.declared.VoteAnswer.the-variants.{Agreed, Held, Alarm, Refused}
+use Rattle.vote.specs.declared.Which.{Which}
+use Rattle.vote.specs.declared.Which.the-variants.{First, Second, Neither}
 use Rattle.vote.proofs.Clauses.{each-clause}
-use Rattle.tuple.specs.Tuple.{voterOf, signalVote, alarmBit}
+use Rattle.tuple.specs.Tuple.{voterOf, signalVote, alarmBit, ifSecond, secondBit}
 
 pub zeros : (k i : ℕ) → _≡_ {A = ℕ} (getD (replicate k 0) i 0) 0
 zeros zero i = refl
@@ -27,9 +29,20 @@ either-small false l m = m
 
 pub alarm-small : (v : VoteAnswer) → alarmBit v < 2
 alarm-small (Agreed w) = lit< tt
-alarm-small (Held w) = lit< tt
-alarm-small (Alarm w) = lit< tt
+alarm-small (Held w u) = lit< tt
+alarm-small (Alarm w u) = lit< tt
 alarm-small (Refused k) = lit< tt
+
+if-small : (u : Which) → ifSecond u < 2
+if-small First = lit< tt
+if-small Second = lit< tt
+if-small Neither = lit< tt
+
+pub second-small : (v : VoteAnswer) → secondBit v < 2
+second-small (Agreed w) = lit< tt
+second-small (Held w u) = if-small u
+second-small (Alarm w u) = if-small u
+second-small (Refused k) = lit< tt
 
 module _ (need agreed : ℕ) (counts : List ℕ) (a b : ℕ) where
   pub word-bit-small : (i : ℕ) → signalVote need agreed counts a b i .state .word < 2
@@ -42,3 +55,6 @@ module _ (need agreed : ℕ) (counts : List ℕ) (a b : ℕ) where
 
   pub masks-small : (n : ℕ) → asWord n (λ i. alarmBit (signalVote need agreed counts a b i .answer)) < 2 ^ n
   masks-small = word-small (λ i. alarmBit (signalVote need agreed counts a b i .answer)) (λ i. alarm-small (signalVote need agreed counts a b i .answer))
+
+  pub seconds-small : (n : ℕ) → asWord n (λ i. secondBit (signalVote need agreed counts a b i .answer)) < 2 ^ n
+  seconds-small = word-small (λ i. secondBit (signalVote need agreed counts a b i .answer)) (λ i. second-small (signalVote need agreed counts a b i .answer))

@@ -15,7 +15,7 @@ use Rattle.trace.proofs.Samples.{nowhere}
 use Rattle.trace.proofs.Steps.{agree}
 use Rattle.tuple.specs.declared.Tuple.{Tuple}
 use Rattle.tuple.specs.Tuple.{width, voteNeed, badCounts, badState, fresh, clauses, made, notMade, madeOf, rowsOf, stepOf}
-use Rattle.tuple.specs.Run.{leaves, stepped, publicStep, steps, publicSteps, shownWord, shownMask, shownMark, Ran, Stepwise}
+use Rattle.tuple.specs.Run.{leaves, stepped, publicStep, steps, publicSteps, shownWord, shownMask, shownMark, shownSecond, Ran, Stepwise}
 use Rattle.tuple.proofs.Accepted.{fine}
 use Rattle.tuple.proofs.Rows.{none-given, taken}
 use Rattle.tuple.proofs.Sound.{Sound, not-bad, sound-next, fresh-sound}
@@ -60,10 +60,10 @@ same-steps n votes need word m xs inside =
     (λ s x. step-is-clauses n s (x .0) (x .1)) (λ s x g e. sound-next n s g (x .0) (x .1)) (0, 0) (fresh n votes need word) xs (fresh-sound n votes need word m) inside)
 
 pub run-is-steps :
-    (n votes need word : ℕ) (a b words masks marks words′ masks′ marks′ : List ℕ)
-    → Ran n votes need word a b words masks marks Done words′ masks′ marks′ → Stepwise n votes need word a b words′ masks′ marks′
-run-is-steps n votes need word a b words masks marks words′ masks′ marks′ ran =
-    let f = fine n votes need word a b words masks marks (sym (ran .answered)) in
+    (n votes need word : ℕ) (a b words masks marks seconds words′ masks′ marks′ seconds′ : List ℕ)
+    → Ran n votes need word a b words masks marks seconds Done words′ masks′ marks′ seconds′ → Stepwise n votes need word a b words′ masks′ marks′ seconds′
+run-is-steps n votes need word a b words masks marks seconds words′ masks′ marks′ seconds′ ran =
+    let f = fine n votes need word a b words masks marks seconds (sym (ran .answered)) in
     let m = run-makes _ _ _ _ _ _ f in
     let same = same-steps n votes need word m (zip a b) (nowhere (outsidePair n) (zip a b) (0, 0) (f .samples-in)) in
     record {
@@ -71,4 +71,5 @@ run-is-steps n votes need word a b words masks marks words′ masks′ marks′ 
       words-same = ran .words-after ∙ ap (map shownWord) same;
       masks-same = ran .masks-after ∙ ap (map shownMask) same;
       marks-same = ran .marks-after ∙ ap (map shownMark) same;
+      seconds-same = ran .seconds-after ∙ ap (map shownSecond) same;
     }

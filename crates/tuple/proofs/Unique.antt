@@ -11,7 +11,7 @@ use Rattle.trace.specs.Answers.{after}
 use Rattle.trace.specs.declared.RunAnswer.{RunAnswer}
 use Rattle.tuple.specs.Answers.{numberOf, wordOf, maskOf, markOf}
 use Rattle.tuple.specs.Tuple.{fresh, madeOf, stepOf}
-use Rattle.tuple.specs.Run.{steps, shownWord, shownMask, shownMark, answerOf}
+use Rattle.tuple.specs.Run.{steps, shownWord, shownMask, shownMark, shownSecond, answerOf}
 use Rattle.tuple.proofs.TupleAnswer.number.Reads as number
 use Rattle.tuple.proofs.TupleAnswer.word.Reads as word
 use Rattle.tuple.proofs.TupleAnswer.mask.Reads as mask
@@ -40,23 +40,29 @@ pub new-unique : Fixes (new.Learnt tt) (λ z e. z) (λ a. madeOf (a .0) (a .1 .0
 new-unique = fixes (λ a z e p. p)
 
 pub step-unique : Fixes (step.Learnt tt) (λ z e. z) (λ a. stepOf (a .0) (a .1 .0) (a .1 .1 .0))
-step-unique = fixes (λ a z e p. p)
+step-unique = fixes (λ a z e p. p .0)
 
--- a run: its answer, and the words, masks and marks as it leaves them
+-- a run: its answer, and each slice as it leaves it
 abbrev pub Seen : Type 0
-Seen = RunAnswer × List ℕ × List ℕ × List ℕ
+Seen = RunAnswer × List ℕ × List ℕ × List ℕ × List ℕ
 
-abbrev pub ran : ℕ → ℕ → ℕ → ℕ → List ℕ → List ℕ → List ℕ → List ℕ → List ℕ → Seen
-ran n votes need w a b words masks marks =
-    let r = answerOf n votes need w a b words masks marks in
-    let taken = steps (fresh n votes need w) (zip a b) in
-    (r, after r words (map shownWord taken), after r masks (map shownMask taken), after r marks (map shownMark taken))
+abbrev pub ran : ℕ → ℕ → ℕ → ℕ → List ℕ → List ℕ → List ℕ → List ℕ → List ℕ → List ℕ → Seen
+ran n votes need w a b words masks marks seconds =
+    let r = answerOf n votes need w a b words masks marks seconds in
+    let taken = steps (fresh n votes need w) (zip a b) in (
+      r,
+      after r words (map shownWord taken),
+      after r masks (map shownMask taken),
+      after r marks (map shownMark taken),
+      after r seconds (map shownSecond taken),
+    )
 
 pub run-unique :
-    (κs : Lfts 5)
+    (κs : Lfts 6)
     → Fixes {O = Seen} (run.Learnt κs)
-    (λ z e. let lent = e .1 .1 .1 .1 .1 .1 in (z, now (lent .0), now (lent .1 .0), now (lent .1 .1 .0)))
+    (λ z e. let lent = e .1 .1 .1 .1 .1 .1 in (z, now (lent .0), now (lent .1 .0), now (lent .1 .1 .0), now (lent .1 .1 .1 .0)))
     (λ a.
     let lent = a .1 .1 .1 .1 in
-    ran (a .0) (a .1 .0) (a .1 .1 .0) (a .1 .1 .1 .0) (now (lent .0)) (now (lent .1 .0)) (now (lent .1 .1 .0)) (now (lent .1 .1 .1 .0)) (now (lent .1 .1 .1 .1 .0)))
+    ran (a .0) (a .1 .0) (a .1 .1 .0) (a .1 .1 .1 .0) (now (lent .0)) (now (lent .1 .0))
+    (now (lent .1 .1 .0)) (now (lent .1 .1 .1 .0)) (now (lent .1 .1 .1 .1 .0)) (now (lent .1 .1 .1 .1 .1 .0)))
 run-unique κs = fixes (λ a z e p. cc)

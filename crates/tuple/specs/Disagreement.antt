@@ -24,11 +24,16 @@ countBy need count d = if eqb d 0 then 0 else if ltb count (need - 1) then count
 abbrev pub alarmBy : ℕ → ℕ → ℕ → ℕ
 alarmBy need count d = if ltb count (need - 1) then 0 else d
 
--- all signals, by a unit's word a and the word of disagreements d; places at n and above stay
+-- where it disagrees, the second unit shows the agreed bit if the first, whose bit is looked at, does not (T-09)
+abbrev pub secondBy : ℕ → ℕ → ℕ → ℕ
+secondBy first kept d = if eqb d 0 then 0 else if eqb first kept then 0 else 1
+
+-- all signals, by the first unit's word a and the word of disagreements d; places at n and above stay
 abbrev pub votersBy : ℕ → ℕ → ℕ → List ℕ → ℕ → ℕ → Voters
 votersBy n need agreed counts a d =
     record {
       word = asWord n (λ i. bitBy (bit i a) (bit i agreed) (bit i d));
       mask = asWord n (λ i. alarmBy need (getD counts i 0) (bit i d));
+      second = asWord n (λ i. secondBy (bit i a) (bit i agreed) (bit i d));
       counts = asList n (λ i. countBy need (getD counts i 0) (bit i d)) ++ drop n counts;
     }

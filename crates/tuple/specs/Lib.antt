@@ -3,4 +3,5 @@ pub mod Disagreement
 pub mod OneCount
 pub mod Parts
 pub mod Run
+pub mod Second
 pub mod Tuple

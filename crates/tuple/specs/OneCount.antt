@@ -1,13 +1,14 @@
--- The tuple vote as it was before T-02, with one count N for its voters and its confirmation: the text of `Tuple.antt` and of
--- `Run.antt` then, of a state without the voters' count. What T-02 left alone is not said again. No promise names it: it serves
--- the theorems that with equal counts nothing changed (`proofs/OneCount.antt`).
+-- The tuple vote as it was before T-02 and T-09, with one count N for its voters and its confirmation and without a word for the second
+-- unit: the text of `Tuple.antt` and of `Run.antt` then, of a state without the voters' count. What these left alone is not said
+-- again. No promise names it: it serves the theorems that with equal counts nothing else changed (`proofs/OneCount.antt`).
 use Prim.Native.Nat.{ℕ}
+use mathlib.Core.Path.{_≡_}
 use mathlib.Core.List.{List, map, zip}
 use mathlib.Core.Bool.{Bool, not, _||_}
 use lib.Dec.{eqb}
-use lib.ListN.{replicate}
+use lib.ListN.{length, replicate}
 use Rattle.rules.specs.Choose.{if_then_else_}
-use Rattle.rules.specs.Limits.{badCount, outside}
+use Rattle.rules.specs.Limits.{badCount, outside, differ}
 use Rattle.rules.specs.Table.{Row, first, answer}
 use Rattle.rules.specs.Refusals.{makeRows, stepRows}
 use Rattle.trace.specs.Answers.{pairAnswer, after}
@@ -23,7 +24,6 @@ use Rattle.tuple.specs.declared.TupleMade.{TupleMade}
 use Rattle.tuple.specs.declared.TupleStep.{TupleStep}
 use Rattle.tuple.specs.declared.Voters.{Voters}
 use Rattle.tuple.specs.Answers.{wordOf, maskOf, markOf}
-use Rattle.tuple.specs.Run.{unequal}
 use Rattle.tuple.specs.Tuple.{voters, confirmedAs, badPlaces}
 
 pub record OneCount : Type 0 where
@@ -98,6 +98,9 @@ stepped s x = clauses s (x .0) (x .1)
 abbrev pub leaves : OneStep → OneCount
 leaves t = t .state
 
+abbrev pub unequal : List ℕ → List ℕ → List ℕ → List ℕ → Bool
+unequal a words masks marks = differ (length a) (length words) || differ (length a) (length masks) || differ (length a) (length marks)
+
 abbrev pub answerOf : ℕ → ℕ → ℕ → List ℕ → List ℕ → List ℕ → List ℕ → List ℕ → RunAnswer
 answerOf n need word a b words masks marks = pairAnswer (badCount need) n word a b (unequal a words masks marks)
 
@@ -120,5 +123,7 @@ twice s = record { votes = s .confirm .need; confirm = s .confirm; agreed = s .a
 abbrev pub twiceMade : OneMade → TupleMade
 twiceMade m = record { state = twice (m .state); refusal = m .refusal }
 
-abbrev pub twiceStep : OneStep → TupleStep
-twiceStep t = record { state = twice (t .state); answer = t .answer }
+-- a step is as before, T-09's word left out
+pub record AsBefore (t : TupleStep) (before : OneStep) : Type 0 where
+  pub state : t .state ≡ twice (before .state)
+  pub answer : t .answer ≡ before .answer

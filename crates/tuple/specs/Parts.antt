@@ -15,15 +15,17 @@ use Rattle.tuple.specs.Tuple.{changed, decided}
 
 -- what the voters leave, with their counts
 abbrev pub together : Voted → List ℕ → Voters
-together v counts = record { word = v .word; mask = v .mask; counts = counts }
+together v counts = record { word = v .word; mask = v .mask; second = v .second; counts = counts }
 
 -- a step: what is decided, with what the voters leave
 abbrev pub stepWith : Tuple → Decided → Voted → List ℕ → TupleStep
-stepWith s d v counts = record { state = changed s (d .confirm) (v .word) counts; answer = d .answer }
+stepWith s d v counts = record { state = changed s (d .confirm) (v .word) counts; answer = d .answer; second = v .second }
 
--- d is what is decided: of a state only the confirmation's says what
-abbrev pub Decides : Confirm → Voted → Decided → Type 0
-Decides confirm v d = (s : Tuple) (counts : List ℕ) → s .confirm ≡ confirm → decided s (together v counts) ≡ stepWith s d v counts
+-- d is what is decided of a voted word and an alarm mask: of a state only the confirmation's says what, and of the voters nothing else
+abbrev pub Decides : Confirm → ℕ → ℕ → Decided → Type 0
+Decides confirm word mask d =
+    (s : Tuple) (second : ℕ) (counts : List ℕ) → s .confirm ≡ confirm → let v : Voted = record { word = word; mask = mask; second = second } in
+    decided s (together v counts) ≡ stepWith s d v counts
 
 -- no place at n or above counts, and none at all where no voter waits
 pub record Resting (n : ℕ) (waiting : Bool) (counts : List ℕ) : Type 0 where

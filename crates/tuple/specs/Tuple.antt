@@ -1,4 +1,4 @@
--- The tuple vote: document 000, definition 15, as document 01 has it, and T-02 of document 02. Signal i of a word is its bit i.
+-- The tuple vote: document 000, definition 15, as document 01 has it, and T-02 and T-09 of document 02. Signal i of a word is its bit i.
 use Prim.Native.Nat.{ℕ, _-_}
 use mathlib.Core.List.{List, _++_}
 use mathlib.Core.Bool.{Bool, false, not, _||_}
@@ -20,6 +20,8 @@ use Rattle.vote.specs.declared.Vote.{Vote}
 use Rattle.vote.specs.declared.VoteAnswer.{VoteAnswer}
 use Rattle.vote.specs.declared.VoteAnswer.the-variants.{Agreed as VoteAgreed, Held as VoteHeld, Alarm as VoteAlarm, Refused as VoteRefused}
 use Rattle.vote.specs.declared.VoteStep.{VoteStep}
+use Rattle.vote.specs.declared.Which.{Which}
+use Rattle.vote.specs.declared.Which.the-variants.{First, Second, Neither}
 use Rattle.tuple.specs.declared.Tuple.{Tuple}
 use Rattle.tuple.specs.declared.TupleAnswer.{TupleAnswer}
 use Rattle.tuple.specs.declared.TupleAnswer.the-variants.{Confirmed, Held, Alarm, Refused}
@@ -58,16 +60,30 @@ signalVote need agreed counts a b i = vote.clauses (voterOf need agreed (getD co
 -- a one where a voter alarms
 abbrev pub alarmBit : VoteAnswer → ℕ
 alarmBit (VoteAgreed w) = 0
-alarmBit (VoteHeld w) = 0
-alarmBit (VoteAlarm w) = 1
+alarmBit (VoteHeld w u) = 0
+alarmBit (VoteAlarm w u) = 1
 alarmBit (VoteRefused k) = 0
 
--- the voters of all signals step: the voted word, the alarm mask, and the counts; places at n and above stay
+-- "a one where the signals differ and the second unit shows the agreed bit"
+abbrev pub ifSecond : Which → ℕ
+ifSecond First = 0
+ifSecond Second = 1
+ifSecond Neither = 0
+
+abbrev pub secondBit : VoteAnswer → ℕ
+secondBit (VoteAgreed w) = 0
+secondBit (VoteHeld w u) = ifSecond u
+secondBit (VoteAlarm w u) = ifSecond u
+secondBit (VoteRefused k) = 0
+
+-- the voters of all signals step: the voted word, the alarm mask, where the second unit shows the agreed bit, and the counts; places at n
+-- and above stay
 abbrev pub voters : ℕ → ℕ → ℕ → List ℕ → ℕ → ℕ → Voters
 voters n need agreed counts a b =
     record {
       word = asWord n (λ i. signalVote need agreed counts a b i .state .word);
       mask = asWord n (λ i. alarmBit (signalVote need agreed counts a b i .answer));
+      second = asWord n (λ i. secondBit (signalVote need agreed counts a b i .answer));
       counts = asList n (λ i. signalVote need agreed counts a b i .state .count) ++ drop n counts;
     }
 
@@ -80,7 +96,7 @@ changed s confirm agreed counts = record { votes = s .votes; confirm = confirm; 
 
 -- an alarm: the mask with the previous output; confirmation takes no step
 abbrev pub alarm : Tuple → Voters → TupleStep
-alarm s v = record { state = changed s (s .confirm) (v .word) (v .counts); answer = Alarm (s .confirm .output) (v .mask) }
+alarm s v = record { state = changed s (s .confirm) (v .word) (v .counts); answer = Alarm (s .confirm .output) (v .mask); second = v .second }
 
 abbrev pub confirmedAs : ConfirmAnswer → TupleAnswer
 confirmedAs (ConfirmedOne w) = Confirmed w
@@ -89,9 +105,10 @@ confirmedAs (RefusedOne k) = Refused k
 
 -- the voted word has taken a step of confirmation
 abbrev pub confirms : Tuple → Voters → ConfirmStep → TupleStep
-confirms s v t = record { state = changed s (t .state) (v .word) (v .counts); answer = confirmedAs (t .answer) }
+confirms s v t = record { state = changed s (t .state) (v .word) (v .counts); answer = confirmedAs (t .answer); second = v .second }
 
--- if any alarms, the alarm; otherwise the voted word takes a step of confirmation, with its own N. All voters step in either case
+-- if any alarms, the alarm; otherwise the voted word takes a step of confirmation, with its own N. All voters step in either case, and what
+-- they say of the second unit stands beside the answer in either
 abbrev pub decided : Tuple → Voters → TupleStep
 decided s v = if not (eqb (v .mask) 0) then alarm s v else confirms s v (confirm.clauses (s .confirm) (v .word))
 
@@ -122,9 +139,9 @@ badState s = badPlaces (width s) (voteNeed s) (s .counts) || outside (width s) (
 abbrev pub rowsOf : Tuple → ℕ → ℕ → List Row
 rowsOf s a b = stepRows (miscounted s) (width s) (outside (width s) a || outside (width s) b) (badState s)
 
--- a step; refused: the state as it came
+-- a step; refused: the state as it came, and nothing is said of a unit
 abbrev pub notTaken : Tuple → ℕ → TupleStep
-notTaken s number = record { state = s; answer = Refused number }
+notTaken s number = record { state = s; answer = Refused number; second = 0 }
 
 unfoldable pub stepOf : Tuple → ℕ → ℕ → TupleStep
 stepOf s a b = answer (first (rowsOf s a b)) (notTaken s) (clauses s a b)

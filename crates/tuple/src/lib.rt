@@ -1,5 +1,5 @@
-// The tuple vote (document 000, definition 15; T-02): a plain vote for each signal, and a confirmation of the voted word, each
-// with a count of its own.
+// The tuple vote (document 000, definition 15; T-02, T-09): a plain vote for each signal, and a confirmation of the voted word,
+// each with a count of its own.
 mod signals;
 mod steps;
 
@@ -14,6 +14,7 @@ ghost use Rattle.tuple.specs.Answers.{numberOf, wordOf, maskOf, markOf};
 ghost use Rattle.tuple.specs.Tuple.{badCounts, miscounted, fresh, votersOf, confirmedAs, decided, madeOf, rowsOf, stepOf};
 ghost use Rattle.tuple.specs.Parts.{Decides};
 ghost use Rattle.tuple.specs.Run.{Ran};
+ghost use Rattle.tuple.specs.Second.{Tells};
 
 // The state of a tuple vote: the voters' N, the confirmation's state, which has n and its own N, the agreed signals as one word,
 // and a count for each signal; places at n and above are zero.
@@ -38,16 +39,19 @@ pub enum TupleAnswer {
     Refused(u32),
 }
 
-// A step's answer, beside the state that it leaves.
+// A step's answer, beside the state that it leaves. Whatever the answer, `second` has a one where the signals differ and the second
+// unit shows the agreed bit; where they differ and it has none, the first does.
 pub struct TupleStep {
     pub state: Tuple,
     pub answer: TupleAnswer,
+    pub second: u32,
 }
 
 // What the voters of all signals leave at one sample: what the definitions of a step speak of, so other rooms can name it.
 pub struct Voters {
     pub word: u32,
     pub mask: u32,
+    pub second: u32,
     pub counts: [u32; 32],
 }
 
@@ -55,6 +59,7 @@ pub struct Voters {
 struct Voted {
     pub word: u32,
     pub mask: u32,
+    pub second: u32,
 }
 
 // The places that count, and those whose count is above the voters' N-1, as a word each.
@@ -130,10 +135,9 @@ fn confirmed_as(answer: ConfirmAnswer) -> TupleAnswer
 }
 
 // If any voter alarms, the mask with the previous output, and confirmation takes no step; otherwise the voted word takes one.
-fn decide(confirm: Confirm, voted: Voted) -> Decided
-    ensures { λ r. ⌜ Decides confirm voted r ⌝ }
+fn decide(confirm: Confirm, word: u32, mask: u32) -> Decided
+    ensures { λ r. ⌜ Decides confirm word mask r ⌝ }
 {
-    let mask = voted.mask;
     if mask != 0 {
         let word = confirm.output;
         return Decided {
@@ -141,7 +145,7 @@ fn decide(confirm: Confirm, voted: Voted) -> Decided
             answer: TupleAnswer::Alarm { word, mask },
         };
     }
-    let taken = confirm.clauses(voted.word);
+    let taken = confirm.clauses(word);
     let confirm = taken.state;
     let confirmed = taken.answer;
     let answer = confirmed_as(confirmed);
@@ -199,11 +203,7 @@ impl Tuple {
     fn decided(self, v: Voters) -> TupleStep
         ensures { λ r. ⌜ r ≡ decided self v ⌝ }
     {
-        let voted = Voted {
-            word: v.word,
-            mask: v.mask,
-        };
-        let taken = decide(self.confirm, voted);
+        let taken = decide(self.confirm, v.word, v.mask);
         let confirm = taken.confirm;
         let answer = taken.answer;
         let counts = v.counts;
@@ -213,7 +213,11 @@ impl Tuple {
             agreed: v.word,
             counts,
         };
-        TupleStep { state, answer }
+        TupleStep {
+            state,
+            answer,
+            second: v.second,
+        }
     }
 
     // 1, of the state.
@@ -234,6 +238,7 @@ impl Tuple {
         Voters {
             word: voted.word,
             mask: voted.mask,
+            second: voted.second,
             counts,
         }
     }
@@ -257,6 +262,7 @@ impl Tuple {
     // One step. A refused one returns the state it got.
     pub fn step(self, a: u32, b: u32) -> TupleStep
         ensures { λ r. ⌜ r ≡ stepOf self a b ⌝ }
+        ensures { λ r. ⌜ Tells self a b r ⌝ }
     {
         let confirm = self.confirm;
         let refused = !self.admits(a, b);
@@ -265,6 +271,7 @@ impl Tuple {
             return TupleStep {
                 state: self,
                 answer: TupleAnswer::Refused(number),
+                second: 0,
             };
         }
         self.decided(self.voters(a, b))
@@ -282,16 +289,19 @@ pub fn run(
     words: &mut [u32],
     masks: &mut [u32],
     marks: &mut [u8],
+    seconds: &mut [u32],
 ) -> RunAnswer
-    ensures { λ r. ⌜ Ran n votes need word (now (a .entry)) (now (b .entry)) (now (words .entry)) (now (masks .entry)) (now (marks .entry))
-        r (now (words .exit)) (now (masks .exit)) (now (marks .exit)) ⌝ }
+    ensures { λ r. ⌜ Ran n votes need word (now (a .entry)) (now (b .entry))
+        (now (words .entry)) (now (masks .entry)) (now (marks .entry)) (now (seconds .entry))
+        r (now (words .exit)) (now (masks .exit)) (now (marks .exit)) (now (seconds .exit)) ⌝ }
 {
     let len = a.len();
-    let unequal = (len != words.len()) | (len != masks.len()) | (len != marks.len());
+    let shown = (len != words.len()) | (len != masks.len()) | (len != marks.len());
+    let unequal = shown | (len != seconds.len());
     let answer = trace::judge_pair(bad_counts(votes, need), n, word, a, b, unequal);
     let RunAnswer::Done = answer else {
         return answer;
     };
-    steps::write_steps(n, votes, need, word, a, b, words, masks, marks);
+    steps::write_steps(n, votes, need, word, a, b, words, masks, marks, seconds);
     RunAnswer::Done
 }

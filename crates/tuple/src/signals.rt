@@ -12,7 +12,7 @@ ghost use Rattle.rules.specs.Bits.{bit};
 ghost use Rattle.rules.specs.Choose.{if_then_else_};
 ghost use Rattle.rules.specs.Limits.{outside};
 ghost use Rattle.rules.specs.Signals.{asWord, asList};
-ghost use Rattle.tuple.specs.Disagreement.{disagreement, bitBy, countBy, alarmBy, votersBy};
+ghost use Rattle.tuple.specs.Disagreement.{disagreement, bitBy, countBy, alarmBy, secondBy, votersBy};
 ghost use Rattle.tuple.specs.Parts.{together, Resting};
 
 // The signals that disagree: a one at the place of each.
@@ -28,6 +28,14 @@ fn voted_word(a: u32, agreed: u32, disagreeing: u32) -> u32
         → r ≡ asWord n (λ i. bitBy (bit i a) (bit i agreed) (bit i disagreeing))) ⌝ }
 {
     (a & !disagreeing) | (agreed & disagreeing)
+}
+
+// A signal that disagrees has a one where the first unit does not show the agreed bit, and so the second does.
+fn second_word(a: u32, agreed: u32, disagreeing: u32) -> u32
+    ensures { λ r. ⌜ ((n : ℕ) → outside n disagreeing ≡ false
+        → r ≡ asWord n (λ i. secondBy (bit i a) (bit i agreed) (bit i disagreeing))) ⌝ }
+{
+    disagreeing & (a ^ agreed)
 }
 
 // The count of a signal that agrees is zero; one that disagrees, a one at its place, goes on counting, up to N-1.
@@ -100,11 +108,16 @@ pub(crate) fn step_sample(
         if waiting {
             *counts = [0u32; 32];
         }
-        return Voted { word: a, mask: 0 };
+        return Voted {
+            word: a,
+            mask: 0,
+            second: 0,
+        };
     }
     let word = voted_word(a, agreed, disagreeing);
+    let second = second_word(a, agreed, disagreeing);
     let mask = step_counts(n, need, ones, counts, disagreeing);
-    Voted { word, mask }
+    Voted { word, mask, second }
 }
 
 // The sample of a single step looks at all places, so that it takes as long for each n: its caller knows that those at n and

@@ -5,7 +5,7 @@ ghost use mathlib.Core.Path.{_≡_};
 ghost use mathlib.Core.List.{map, zip};
 ghost use Rattle.trace.specs.declared.RunAnswer.the-variants.{Done};
 ghost use Rattle.tuple.specs.Tuple.{fresh};
-ghost use Rattle.tuple.specs.Run.{steps, shownWord, shownMask, shownMark, answerOf};
+ghost use Rattle.tuple.specs.Run.{steps, shownWord, shownMask, shownMark, shownSecond, answerOf};
 
 // A step for each sample, from a fresh state: what each shows is written. Of the state only the counts are large, and they step
 // in place.
@@ -19,11 +19,13 @@ pub(crate) fn write_steps(
     words: &mut [u32],
     masks: &mut [u32],
     marks: &mut [u8],
+    seconds: &mut [u32],
 )
-    requires { ⌜ answerOf n votes need word (now a) (now b) (now words) (now masks) (now marks) ≡ Done ⌝ }
+    requires { ⌜ answerOf n votes need word (now a) (now b) (now words) (now masks) (now marks) (now seconds) ≡ Done ⌝ }
     ensures { λ _. ⌜ now (words .exit) ≡ map shownWord (steps (fresh n votes need word) (zip (now (a .entry)) (now (b .entry)))) ⌝ }
     ensures { λ _. ⌜ now (masks .exit) ≡ map shownMask (steps (fresh n votes need word) (zip (now (a .entry)) (now (b .entry)))) ⌝ }
     ensures { λ _. ⌜ now (marks .exit) ≡ map shownMark (steps (fresh n votes need word) (zip (now (a .entry)) (now (b .entry)))) ⌝ }
+    ensures { λ _. ⌜ now (seconds .exit) ≡ map shownSecond (steps (fresh n votes need word) (zip (now (a .entry)) (now (b .entry)))) ⌝ }
 {
     let start = Tuple::fresh(n, votes, need, word);
     let mut confirm = start.confirm;
@@ -48,7 +50,7 @@ pub(crate) fn write_steps(
             x,
             disagreeing,
         );
-        let taken = crate::decide(confirm, voted);
+        let taken = crate::decide(confirm, voted.word, voted.mask);
         let answer = taken.answer;
         disagreed = disagreeing;
         agreed = voted.word;
@@ -57,6 +59,7 @@ pub(crate) fn write_steps(
         words[i] = confirm.output;
         masks[i] = voted.mask;
         marks[i] = answer.mark();
+        seconds[i] = voted.second;
         i += 1;
     }
 }

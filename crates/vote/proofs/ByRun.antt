@@ -40,7 +40,7 @@ word-kept s x reset = go (equal x) reset (ltb (s .count) (s .need - 1)) where
   go false false true = refl
   go false false false = refl
 
-left-agreed : (s : Vote) (xs : List (ℕ × ℕ)) → left plain leaves s xs .word ≡ lastAgreed (s .word) xs
+pub left-agreed : (s : Vote) (xs : List (ℕ × ℕ)) → left plain leaves s xs .word ≡ lastAgreed (s .word) xs
 unfolding left lastAgreed
 left-agreed s [] = refl
 left-agreed s (x ∷ xs) = left-agreed (leaves (plain s x)) xs ∙ ap (λ (w : ℕ). lastAgreed w xs) (word-kept s x false)

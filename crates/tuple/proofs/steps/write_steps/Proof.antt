@@ -11,7 +11,7 @@ use Rattle.rules.specs.Signals.{asList}
 use Rattle.trace.proofs.FillPairs.{FilledPair, start-pair, turn-pair, filled-pair}
 use Rattle.confirm.specs.declared.Confirm.{Confirm}
 use Rattle.tuple.specs.Disagreement.{disagreement, votersBy}
-use Rattle.tuple.specs.Run.{stepped, leaves, shownWord, shownMask, shownMark}
+use Rattle.tuple.specs.Run.{stepped, leaves, shownWord, shownMask, shownMark, shownSecond}
 use Rattle.tuple.specs.declared.Tuple.{Tuple}
 use Rattle.tuple.specs.Tuple.{voteNeed, fresh, changed}
 use Rattle.tuple.proofs.Accepted.{Accepted, accept}
@@ -21,7 +21,7 @@ use Rattle.tuple.proofs.Sound.{Sound}
 use Rattle.tuple.proofs.steps.write_steps.Statement.{statement}
 use Rattle.tuple.proofs.steps.write_steps.Tie as tie
 
-record Going (n : ℕ) (start : Tuple) (a b ones words masks marks : List ℕ) (confirm : Confirm) (agreed : ℕ) (counts : List ℕ) (disagreed i : ℕ) : Type 0 where
+record Going (n : ℕ) (start : Tuple) (a b ones words masks marks seconds : List ℕ) (confirm : Confirm) (agreed : ℕ) (counts : List ℕ) (disagreed i : ℕ) : Type 0 where
   within : i ≤ length a
   few : length a ≤ 2048
   second-long : length a ≡ length b
@@ -33,18 +33,19 @@ record Going (n : ℕ) (start : Tuple) (a b ones words masks marks : List ℕ) (
   in-words : FilledPair stepped leaves shownWord start a b words i (changed start confirm agreed counts)
   in-masks : FilledPair stepped leaves shownMask start a b masks i (changed start confirm agreed counts)
   in-marks : FilledPair stepped leaves shownMark start a b marks i (changed start confirm agreed counts)
+  in-seconds : FilledPair stepped leaves shownSecond start a b seconds i (changed start confirm agreed counts)
 
 abbrev Inv-loop : tie.InvT-loop
-Inv-loop n votes need word a b words₀ masks₀ marks₀ confirm₀ agreed₀ counts₀ ones disagreed₀ i₀ words masks marks confirm agreed counts disagreed i =
-    Going n (fresh n votes need word) a b ones words masks marks confirm agreed counts disagreed i
+Inv-loop n votes need word a b words₀ masks₀ marks₀ seconds₀ confirm₀ agreed₀ counts₀ ones disagreed₀ i₀ words masks marks seconds confirm agreed counts disagreed i =
+    Going n (fresh n votes need word) a b ones words masks marks seconds confirm agreed counts disagreed i
 
 abbrev μ-loop : tie.MeasureT-loop
-μ-loop n votes need word a b words₀ masks₀ marks₀ confirm₀ agreed₀ counts₀ ones disagreed₀ i₀ words masks marks confirm agreed counts disagreed i =
+μ-loop n votes need word a b words₀ masks₀ marks₀ seconds₀ confirm₀ agreed₀ counts₀ ones disagreed₀ i₀ words masks marks seconds confirm agreed counts disagreed i =
     length a - i
 
 -- what is looked at from further on: the start, and within the loop its sample
 abbrev start-of : tie.After-ones Inv-loop μ-loop → tie.Start Inv-loop μ-loop
-start-of c = c .before .before .before .before .before .before .before .before .before
+start-of c = c .before .before .before .before .before .before .before .before .before .before
 
 abbrev sample-of : tie.After-disagreement Inv-loop μ-loop → tie.In-loop Inv-loop μ-loop
 sample-of c = c .before .before .before
@@ -57,8 +58,8 @@ started c = let x = start-of c .args in fresh (x .n) (x .votes) (x .need) (x .wo
 
 -- the run is accepted
 accepted : (c : tie.After-ones Inv-loop μ-loop) → let x = start-of c .args in
-    Accepted (x .n) (started c) (x .a .now) (x .b .now) (x .words .now) (x .masks .now) (x .marks .now)
-accepted c = accept _ _ _ _ _ _ _ _ _ (start-of c .pre)
+    Accepted (x .n) (started c) (x .a .now) (x .b .now) (x .words .now) (x .masks .now) (x .marks .now) (x .seconds .now)
+accepted c = accept _ _ _ _ _ _ _ _ _ _ (start-of c .pre)
 
 loop-holds : tie.Need-loop-holds Inv-loop μ-loop
 loop-holds c =
@@ -77,6 +78,7 @@ loop-holds c =
       in-words = start-pair stepped leaves shownWord start (x .a .now) (x .b .now) (ok .second-long) (x .words .now) (ok .words-long);
       in-masks = start-pair stepped leaves shownMask start (x .a .now) (x .b .now) (ok .second-long) (x .masks .now) (ok .masks-long);
       in-marks = start-pair stepped leaves shownMark start (x .a .now) (x .b .now) (ok .second-long) (x .marks .now) (ok .marks-long);
+      in-seconds = start-pair stepped leaves shownSecond start (x .a .now) (x .b .now) (ok .second-long) (x .seconds .now) (ok .seconds-long);
     })
 
 -- the signals that disagree, as the definition has them
@@ -125,6 +127,7 @@ loop-again c =
       in-words = turn-pair stepped leaves shownWord _ _ _ (inv .second-long) _ _ _ _ _ (t .whole) (t .word-shown) more (inv .in-words);
       in-masks = turn-pair stepped leaves shownMask _ _ _ (inv .second-long) _ _ _ _ _ (t .whole) (t .mask-shown) more (inv .in-masks);
       in-marks = turn-pair stepped leaves shownMark _ _ _ (inv .second-long) _ _ _ _ _ (t .whole) (c .mark .ensures) more (inv .in-marks);
+      in-seconds = turn-pair stepped leaves shownSecond _ _ _ (inv .second-long) _ _ _ _ _ (t .whole) (t .second-shown) more (inv .in-seconds);
     }
 
 returns : tie.Need-returns Inv-loop μ-loop
@@ -132,7 +135,10 @@ returns c =
     let inv = c .before .loop .inv in
     let past = c .loop-test .left in (
       filled-pair stepped leaves shownWord _ _ _ (inv .second-long) _ _ _ past (inv .in-words),
-      (filled-pair stepped leaves shownMask _ _ _ (inv .second-long) _ _ _ past (inv .in-masks), filled-pair stepped leaves shownMark _ _ _ (inv .second-long) _ _ _ past (inv .in-marks)),
+      (
+        filled-pair stepped leaves shownMask _ _ _ (inv .second-long) _ _ _ past (inv .in-masks),
+        (filled-pair stepped leaves shownMark _ _ _ (inv .second-long) _ _ _ past (inv .in-marks), filled-pair stepped leaves shownSecond _ _ _ (inv .second-long) _ _ _ past (inv .in-seconds)),
+      ),
     )
 
 pub write-steps-spec : {M : Type 1} → statement M
@@ -159,7 +165,10 @@ write-steps-spec =
     (λ c. omega arith)
     (λ c. omega arith)
     (λ c. omega arith)
+    (λ c. omega arith)
+    (λ c. omega arith)
     loop-again
+    (λ c. let ok = accepted (c .before .before) in omega arith)
     (λ c. let ok = accepted (c .before .before) in omega arith)
     (λ c. let ok = accepted (c .before .before) in omega arith)
     (λ c. let ok = accepted (c .before .before) in omega arith)

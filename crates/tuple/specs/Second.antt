@@ -1,0 +1,23 @@
+-- T-09, "for single signals 'neither' cannot occur": where a signal differs, one of the two units shows the agreed bit, and the word of a step
+-- says which.
+use Prim.Native.Nat.{ℕ, _<_}
+use mathlib.Core.Path.{_≡_}
+use mathlib.Core.Logic.{_⊎_}
+use Rattle.rules.specs.Bits.{bit}
+use Rattle.tuple.specs.declared.Tuple.{Tuple}
+use Rattle.tuple.specs.declared.TupleStep.{TupleStep}
+use Rattle.tuple.specs.Answers.{numberOf}
+use Rattle.tuple.specs.Tuple.{width}
+
+-- signal i of both words of a sample
+abbrev pub signalOf : ℕ → ℕ × ℕ → ℕ × ℕ
+signalOf i x = (bit i (x .0), bit i (x .1))
+
+-- of a signal's bits: the first unit shows the agreed bit, and there is a zero, or the second does, and there is a one
+abbrev pub FirstOrSecond : ℕ → ℕ × ℕ → ℕ → Type 0
+FirstOrSecond agreed x second = ((x .0 ≡ agreed) × (second ≡ 0)) ⊎ ((x .1 ≡ agreed) × (second ≡ 1))
+
+-- so of every signal that differs at a step that is taken
+abbrev pub Tells : Tuple → ℕ → ℕ → TupleStep → Type 0
+Tells s a b t =
+    numberOf (t .answer) ≡ 0 → (i : ℕ) → i < width s → (bit i a ≡ bit i b → ⊥) → FirstOrSecond (bit i (s .agreed)) (signalOf i (a, b)) (bit i (t .second))
