@@ -3,7 +3,9 @@ use mathlib.Core.Path.{_≡_, sym, _∙_}
 use mathlib.Core.Bool.{Bool, false}
 use mathlib.Core.List.{List, map, zip}
 use Prim.Native.Nat.{ℕ, _≤_}
-use lib.ListN.{length}
+use native.Mathlib.Omega.{arith}
+use lib.ListN.{length, take}
+use lib.Seq.{length-take-le}
 use borrow.Author.Tests.{le-ltb, eq-eqb}
 use Rattle.rules.specs.Limits.{badCount, tooLong, differ, outside}
 use Rattle.rules.proofs.Readings.{Runs}
@@ -24,13 +26,17 @@ use Rattle.reserve.specs.Run as reserveRun
 use Rattle.reserve.specs.declared.ReserveStep.{ReserveStep}
 use Rattle.recording.specs.declared.Header.{Header}
 use Rattle.listing.specs.Listing.{pairSteps}
-use Rattle.listing.specs.Runnable.{Column, Runnable, Room}
+use Rattle.listing.specs.Runnable.{Column, Runnable, Room, Spare}
 
 alike : {a b c : ℕ} → a ≡ c → b ≡ c → differ a b ≡ false
 alike {a} {b} p q = rw (eq-eqb a b (p ∙ sym q))
 
 short : {a c : ℕ} → a ≡ c → c ≤ 2048 → tooLong a ≡ false
 short {a} e l = le-ltb 2048 a (rw e l)
+
+-- so many places at the start of 2,048
+pub part : (k : ℕ) (l : List ℕ) → length l ≡ 2048 → k ≤ 2048 → k ≡ length (take k l)
+part k l e h = sym (length-take-le k l (omega arith))
 
 same : {h : Header} {x y : List ℕ} → Column h x → Column h y → length x ≡ length y
 same p q = p .whole ∙ sym (q .whole)
@@ -58,20 +64,21 @@ module _ (h : Header) (run : Runnable h) where
         let d : a ≡ Done = ran .answered ∙ confirm-done in
         (rw d at (ran .words-after), rw d at (ran .marks-after), rw d at (ran .counts-after))
 
-  module _ {one two words marks masks : List ℕ} (x : Column h one) (y : Column h two) (r : Room h words marks masks) where
+  module _ {one two words marks masks seconds : List ℕ} (x : Column h one) (y : Column h two) (r : Room h words marks masks) (told : Spare h seconds) where
     abbrev pair-taken : List TupleStep
     pair-taken = pairSteps (h .n) (h .need) (h .word) one two
 
-    pub pair-done : tupleRun.answerOf (h .n) (h .need) (h .need) (h .word) one two words masks marks ≡ Done
+    pub pair-done : tupleRun.answerOf (h .n) (h .need) (h .need) (h .word) one two words masks marks seconds ≡ Done
     pair-done =
         let e = x .whole in
         rw (same-count (h .need)) (done-when _ _ _ _ _ outsidePair (zip one two)
         (fine _ _ _ (rw (short e (run .few)) (short (y .whole) (run .few)))
-        (rw (alike e (y .whole), alike e (r .for-words), alike e (r .for-lasts)) (alike e (r .for-marks)))
+        (rw (alike e (y .whole), alike e (r .for-words), alike e (r .for-lasts), alike e (r .for-marks)) (alike e (told .for-told)))
         (neither (outside (h .n)) (outside (h .n)) one two (same x y) (x .inside) (y .inside))))
 
     pub pair-shown :
-        {a : RunAnswer} {words′ masks′ marks′ : List ℕ} → tupleRun.Ran (h .n) (h .need) (h .need) (h .word) one two words masks marks a words′ masks′ marks′
+        {a : RunAnswer} {words′ masks′ marks′ seconds′ : List ℕ}
+        → tupleRun.Ran (h .n) (h .need) (h .need) (h .word) one two words masks marks seconds a words′ masks′ marks′ seconds′
         → (words′ ≡ map tupleRun.shownWord pair-taken) × (marks′ ≡ map tupleRun.shownMark pair-taken) × (masks′ ≡ map tupleRun.shownMask pair-taken)
     pair-shown {a} ran =
         let d : a ≡ Done = ran .answered ∙ pair-done in
@@ -90,18 +97,18 @@ module _ (h : Header) (run : Runnable h) where
         (neither (outside (h .n)) (outside (h .n)) one two p (units .0 .inside) (units .1 .inside))
         (neither (outside (h .n)) (outside (h .n)) three four q (units .2 .inside) (units .3 .inside))
 
-    module _ {words marks lasts : List ℕ} (r : Room h words marks lasts) where
-      pub reserve-done : reserveRun.answerOf (h .n) (h .need) (h .word) one two three four words marks ≡ Done
+    module _ {words marks lasts which : List ℕ} (r : Room h words marks lasts) (told : Spare h which) where
+      pub reserve-done : reserveRun.answerOf (h .n) (h .need) (h .word) one two three four words marks which ≡ Done
       reserve-done =
           let e = units .0 .whole in
           let few = run .few in
           done-when _ _ _ _ _ outsideFour (reserveRun.samplesOf one two three four)
           (fine _ _ _ (rw (short e few, short (units .1 .whole) few, short (units .2 .whole) few) (short (units .3 .whole) few))
-          (rw (alike e (units .1 .whole), alike e (units .2 .whole), alike e (units .3 .whole), alike e (r .for-words)) (alike e (r .for-marks)))
+          (rw (alike e (units .1 .whole), alike e (units .2 .whole), alike e (units .3 .whole), alike e (r .for-words), alike e (r .for-marks)) (alike e (told .for-told)))
           four-in)
 
       pub reserve-shown :
-          {a : RunAnswer} {words′ marks′ : List ℕ} → reserveRun.Ran (h .n) (h .need) (h .word) one two three four words marks a words′ marks′
+          {a : RunAnswer} {words′ marks′ which′ : List ℕ} → reserveRun.Ran (h .n) (h .need) (h .word) one two three four words marks which a words′ marks′ which′
           → (words′ ≡ map reserveRun.shownWord reserve-taken) × (marks′ ≡ map reserveRun.shownMark reserve-taken)
       reserve-shown {a} ran =
           let d : a ≡ Done = ran .answered ∙ reserve-done in

@@ -12,7 +12,7 @@ use Rattle.recording.specs.Recording.{headerOf, readOf}
 use Rattle.recording.specs.declared.Header.{Header}
 use Rattle.recording.proofs.Taken.{Accepted, taken}
 use Rattle.listing.specs.Listing.{unit}
-use Rattle.listing.specs.Runnable.{Room}
+use Rattle.listing.specs.Runnable.{Room, Spare}
 use Rattle.listing.proofs.Accepts.{confirm-done, pair-done, reserve-done}
 use Rattle.listing.proofs.Columns.{runnable, column}
 
@@ -27,9 +27,10 @@ module _ (s : List ℕ) (done : readOf false s .answer ≡ Done) where
     pub one-never : h .units ≡ 1 → confirmRun.answerOf (h .n) (h .need) (h .word) (unit s h 1) words marks lasts ≡ Done
     one-never e = confirm-done h (runnable s ok) (column s ok 0 (omega arith)) room
 
-    pub two-never : h .units ≡ 2 → tupleRun.answerOf (h .n) (h .need) (h .need) (h .word) (unit s h 1) (unit s h 2) words lasts marks ≡ Done
-    two-never e = pair-done h (runnable s ok) (column s ok 0 (omega arith)) (column s ok 1 (omega arith)) room
+    module _ {told : List ℕ} (spare : Spare h told) where
+      pub two-never : h .units ≡ 2 → tupleRun.answerOf (h .n) (h .need) (h .need) (h .word) (unit s h 1) (unit s h 2) words lasts marks told ≡ Done
+      two-never e = pair-done h (runnable s ok) (column s ok 0 (omega arith)) (column s ok 1 (omega arith)) room spare
 
-    pub four-never : h .units ≡ 4 → reserveRun.answerOf (h .n) (h .need) (h .word) (unit s h 1) (unit s h 2) (unit s h 3) (unit s h 4) words marks ≡ Done
-    four-never e =
-        reserve-done h (runnable s ok) (column s ok 0 (omega arith), column s ok 1 (omega arith), column s ok 2 (omega arith), column s ok 3 (omega arith)) room
+      pub four-never : h .units ≡ 4 → reserveRun.answerOf (h .n) (h .need) (h .word) (unit s h 1) (unit s h 2) (unit s h 3) (unit s h 4) words marks told ≡ Done
+      four-never e =
+          reserve-done h (runnable s ok) (column s ok 0 (omega arith), column s ok 1 (omega arith), column s ok 2 (omega arith), column s ok 3 (omega arith)) room spare

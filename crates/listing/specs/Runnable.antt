@@ -34,3 +34,7 @@ pub record Room (h : Header) (words marks lasts : List ℕ) : Type 0 where
   pub for-words : length words ≡ h .samples
   pub for-marks : length marks ≡ h .samples
   pub for-lasts : length lasts ≡ h .samples
+
+-- and in a slice for what a run writes and the listing does not show
+pub record Spare (h : Header) (told : List ℕ) : Type 0 where
+  pub for-told : length told ≡ h .samples

@@ -8,7 +8,7 @@ ghost use Prim.Native.Nat.{_≤_};
 ghost use lib.ListN.{length, take};
 ghost use Rattle.text.specs.Put.{Writes};
 ghost use Rattle.listing.specs.Listing.{confirmText, pairText, reserveText, unitsText, longest, writtenOf, Lists};
-ghost use Rattle.listing.specs.Runnable.{Column, Runnable, Room, Units};
+ghost use Rattle.listing.specs.Runnable.{Column, Runnable, Room, Spare, Units};
 
 // What a recording's units take.
 enum Kind {
@@ -63,7 +63,8 @@ fn list_confirm(
     sheet::put_listing(out, Kind::Confirm, h.n, h.need, words, marks, counts)
 }
 
-// Two take the tuple vote, whose two counts are the recording's N; the last field is the alarm mask.
+// Two take the tuple vote, whose two counts are the recording's N; the last field is the alarm mask. What the run tells of the
+// second unit (T-09) is not listed.
 fn list_pair(
     h: Header,
     one: &[u32],
@@ -71,19 +72,33 @@ fn list_pair(
     words: &mut [u32],
     marks: &mut [u8],
     masks: &mut [u32],
+    seconds: &mut [u32],
     out: &mut [u8],
 ) -> usize
     requires { ⌜ Runnable h ⌝ }
     requires { ⌜ Column h (now one) ⌝ }
     requires { ⌜ Column h (now two) ⌝ }
     requires { ⌜ Room h (now words) (now marks) (now masks) ⌝ }
+    requires { ⌜ Spare h (now seconds) ⌝ }
     ensures { λ r. ⌜ Writes (now (out .entry)) 0 (pairText (h .n) (h .need) (h .word) (now (one .entry)) (now (two .entry))) r (now (out .exit)) ⌝ }
 {
-    tuple::run(h.n, h.need, h.need, h.word, one, two, words, masks, marks);
+    tuple::run(
+        h.n,
+        h.need,
+        h.need,
+        h.word,
+        one,
+        two,
+        words,
+        masks,
+        marks,
+        seconds,
+    );
     sheet::put_listing(out, Kind::Pair, h.n, h.need, words, marks, masks)
 }
 
-// Four take the reserve vote; the last field is the pair that was voted on.
+// Four take the reserve vote; the last field is the pair that was voted on. Which of its units still shows the agreed word (T-09)
+// is not listed.
 fn list_reserve(
     h: Header,
     one: &[u32],
@@ -93,20 +108,33 @@ fn list_reserve(
     words: &mut [u32],
     marks: &mut [u8],
     pairs: &mut [u32],
+    which: &mut [u8],
     out: &mut [u8],
 ) -> usize
     requires { ⌜ Runnable h ⌝ }
     requires { ⌜ (Column h (now one)) × (Column h (now two)) × (Column h (now three)) × (Column h (now four)) ⌝ }
     requires { ⌜ Room h (now words) (now marks) (now pairs) ⌝ }
+    requires { ⌜ Spare h (now which) ⌝ }
     ensures { λ r. ⌜ Writes (now (out .entry)) 0 (reserveText (h .n) (h .need) (h .word)
         (now (one .entry)) (now (two .entry)) (now (three .entry)) (now (four .entry))) r (now (out .exit)) ⌝ }
 {
-    reserve::run(h.n, h.need, h.word, one, two, three, four, words, marks);
+    reserve::run(
+        h.n,
+        h.need,
+        h.word,
+        one,
+        two,
+        three,
+        four,
+        words,
+        marks,
+        which,
+    );
     reserve::pairs::tell_pairs(marks, pairs);
     sheet::put_listing(out, Kind::Reserve, h.n, h.need, words, marks, pairs)
 }
 
-// By the number of units, over columns that have a place for each sample.
+// By the number of units, over columns that have a place for each sample, and slices for what is not listed.
 fn list_units(
     h: Header,
     one: &[u32],
@@ -116,11 +144,15 @@ fn list_units(
     words: &mut [u32],
     marks: &mut [u8],
     lasts: &mut [u32],
+    seconds: &mut [u32],
+    which: &mut [u8],
     out: &mut [u8],
 ) -> usize
     requires { ⌜ Runnable h ⌝ }
     requires { ⌜ Units h (now one) (now two) (now three) (now four) ⌝ }
     requires { ⌜ Room h (now words) (now marks) (now lasts) ⌝ }
+    requires { ⌜ Spare h (now seconds) ⌝ }
+    requires { ⌜ Spare h (now which) ⌝ }
     ensures { λ r. ⌜ Writes (now (out .entry)) 0 (unitsText h (now (one .entry)) (now (two .entry)) (now (three .entry)) (now (four .entry)))
         r (now (out .exit)) ⌝ }
 {
@@ -128,9 +160,9 @@ fn list_units(
         return list_confirm(h, one, words, marks, lasts, out);
     }
     if h.units == 2 {
-        return list_pair(h, one, two, words, marks, lasts, out);
+        return list_pair(h, one, two, words, marks, lasts, seconds, out);
     }
-    list_reserve(h, one, two, three, four, words, marks, lasts, out)
+    list_reserve(h, one, two, three, four, words, marks, lasts, which, out)
 }
 
 fn places() -> [u32; 2048]
@@ -145,9 +177,11 @@ fn byte_places() -> [u8; 2048]
     [0; 2048]
 }
 
-// The same over the reader's slices, which have a place for each sample of the longest trace.
+// The same over the reader's slices, which have a place for each sample of the longest trace. The times are not listed, so their
+// places are free.
 fn list_slices(
     h: Header,
+    times: &mut [u32],
     one: &[u32],
     two: &[u32],
     three: &[u32],
@@ -155,7 +189,7 @@ fn list_slices(
     out: &mut [u8],
 ) -> usize
     requires { ⌜ Runnable h ⌝ }
-    requires { ⌜ (length (now one) ≡ 2048) × (length (now two) ≡ 2048) × (length (now three) ≡ 2048) × (length (now four) ≡ 2048) ⌝ }
+    requires { ⌜ (length (now times) ≡ 2048) × (length (now one) ≡ 2048) × (length (now two) ≡ 2048) × (length (now three) ≡ 2048) × (length (now four) ≡ 2048) ⌝ }
     requires { ⌜ Units h (take (h .samples) (now one)) (take (h .samples) (now two)) (take (h .samples) (now three)) (take (h .samples) (now four)) ⌝ }
     ensures { λ r. ⌜ Writes (now (out .entry)) 0 (unitsText h (take (h .samples) (now (one .entry))) (take (h .samples) (now (two .entry)))
         (take (h .samples) (now (three .entry))) (take (h .samples) (now (four .entry)))) r (now (out .exit)) ⌝ }
@@ -163,6 +197,7 @@ fn list_slices(
     let mut words = places();
     let mut marks = byte_places();
     let mut lasts = places();
+    let mut which = byte_places();
     let k = h.samples as usize;
     list_units(
         h,
@@ -173,6 +208,8 @@ fn list_slices(
         &mut words[..k],
         &mut marks[..k],
         &mut lasts[..k],
+        &mut times[..k],
+        &mut which[..k],
         out,
     )
 }
@@ -197,7 +234,7 @@ fn list_read(
     let RunAnswer::Done = answer else {
         return ListAnswer::Refused(sheet::put_refused(out, answer.number(), answer.sample()));
     };
-    ListAnswer::Listed(list_slices(h, one, two, three, four, out))
+    ListAnswer::Listed(list_slices(h, times, one, two, three, four, out))
 }
 
 // Lists a recording's bytes at the start of a lent buffer.

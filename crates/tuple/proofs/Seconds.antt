@@ -4,16 +4,19 @@
 use mathlib.Core.Path.{_≡_, refl, sym, _∙_}
 use mathlib.Core.Logic.{_↔_, Iff·trans, inl, inr}
 use mathlib.Core.Bool.{Bool, true, false}
-use Prim.Native.Nat.{ℕ, _-_, _<_, _^_}
+use Prim.Native.Nat.{ℕ, zero, suc, _-_, _≤_, _<_, _^_, min}
 use native.Mathlib.Omega.{arith}
+use lib.Bits.{bitAnd, bitXor, and-le-l, xor-lt}
 use lib.Dec.{eqb}
+use lib.Pow.{pow-mono}
 use borrow.Author.Tests.{eqb-true, eqb-false}
 use Rattle.rules.specs.Bits.{bit}
 use Rattle.rules.specs.Limits.{outside}
 use Rattle.rules.specs.Table.{first}
+use Rattle.rules.proofs.Bits.{and-bit, xor-exactly, not-bit}
 use Rattle.rules.proofs.Signals.{bit-small, word-bit}
 use Rattle.rules.proofs.Tables.{either-answer}
-use Rattle.rules.proofs.Width.{lt-inside, zero-inside}
+use Rattle.rules.proofs.Width.{inside-lt, lt-inside, zero-inside, words-agree}
 use Rattle.vote.specs.Answers.{byteOf, whichOf}
 use Rattle.vote.specs.Vote as vote
 use Rattle.vote.specs.declared.Vote.{Vote}
@@ -101,3 +104,41 @@ module _ (s : Tuple) (a b : ℕ) where
   step-inside =
       either-answer (λ (t : TupleStep). outside (width s) (t .second) ≡ false) (first (rowsOf s a b)) (notTaken s) (clauses s a b)
       (λ k some. zero-inside (width s)) (λ e. second-inside)
+
+-- of words inside the width it is (a XOR b) AND NOT (b XOR agreed)
+module _ (s : Tuple) (a b : ℕ) (wide : width s ≤ 32) (a-in : outside (width s) a ≡ false) (b-in : outside (width s) b ≡ false) (agreed-in : outside (width s) (s .agreed) ≡ false) where
+  abbrev by-words : ℕ
+  by-words = bitAnd (bitXor a b) ((2 ^ 32 - 1) - bitXor b (s .agreed))
+
+  by-words-small : by-words < 2 ^ width s
+  by-words-small = omega (arith, and-le-l (bitXor a b) ((2 ^ 32 - 1) - bitXor b (s .agreed)), xor-lt (width s) a b (inside-lt (width s) a a-in) (inside-lt (width s) b b-in))
+
+  narrow : bitXor b (s .agreed) < 2 ^ 32
+  narrow = omega (arith, xor-lt (width s) b (s .agreed) (inside-lt (width s) b b-in) (inside-lt (width s) (s .agreed) agreed-in), pow-mono wide)
+
+  -- both are bits, and a one in the same case
+  by-words-bit : (i : ℕ) → i < width s → bit i by-words ≡ bit i (clauses s a b .second)
+  by-words-bit i l =
+      let differs = xor-exactly i a b in
+      let departs = xor-exactly i b (s .agreed) in
+      let exactly = second-exactly s a b i l in
+      rw (and-bit i (bitXor a b) ((2 ^ 32 - 1) - bitXor b (s .agreed)), not-bit 32 i (bitXor b (s .agreed)) (omega (arith, l, wide)) narrow)
+      (same-bit (bit i (bitXor a b)) (bit i (bitXor b (s .agreed))) (bit i (clauses s a b .second)) (bit-small i _) (bit-small i _) (bit-small i _)
+      (λ e. let told = exactly .0 e in (differs .1 (told .0), λ z. departs .0 z (told .1)))
+      (λ d kept. exactly .1 (differs .0 d, shows (bit i b) (bit i (s .agreed)) (λ h. kept (departs .1 h)))))
+    where
+      shows : (x y : ℕ) → ((x ≡ y → ⊥) → ⊥) → x ≡ y
+      shows x y h = go (eqb x y) refl where
+        go : (p : Bool) → eqb x y ≡ p → x ≡ y
+        go true e = eqb-true x y e
+        go false e = absurd (h (eqb-false x y e))
+
+      same-bit : (d e z : ℕ) → d < 2 → e < 2 → z < 2 → (z ≡ 1 → (d ≡ 1) × (e ≡ 1 → ⊥)) → (d ≡ 1 → (e ≡ 1 → ⊥) → z ≡ 1) → min d (1 - e) ≡ z
+      same-bit zero e z l m k to from = let none : z ≡ 1 → ⊥ = λ q. omega (arith, to q .0) in omega (arith, k)
+      same-bit (suc zero) zero z l m k to from = sym (from refl (λ q. omega arith))
+      same-bit (suc zero) (suc zero) z l m k to from = let none : z ≡ 1 → ⊥ = λ q. to q .1 refl in omega (arith, k)
+      same-bit (suc zero) (suc (suc e)) z l m k to from = absurd (omega (arith, m))
+      same-bit (suc (suc d)) e z l m k to from = absurd (omega (arith, l))
+
+  pub second-words : clauses s a b .second ≡ by-words
+  second-words = sym (words-agree (width s) by-words (clauses s a b .second) by-words-small (inside-lt (width s) _ (second-inside s a b)) by-words-bit)

@@ -26,24 +26,24 @@ returns c =
 
 list-slices-requires : tie.Need-list-slices-requires
 list-slices-requires c κs =
-    let r = c .before .before .before .before .before .before .before .before .before .before .before .before .before .before .before .before .before .before in
+    let r = c .before .before .before .before .before .before .before .before .before .before .before .before .before .before .before .before .before .before .before in
     let s = r .before .before .before .before .before .before .before .before .before .before .before .before .before in
-    let done = c .before .before .before .before .before .enum-told .given .1 in
+    let done = c .before .before .before .before .before .before .enum-told .given .1 in
     let kept = r .read .kept in
     let len = s .pre .0 in (
       ready _ _ _ _ _ _ _ _ _ _ _ _ (r .read .ensures) (answered r) done,
       (
-        (kept .1 .1 .0 ∙ len .1, kept .1 .1 .1 .0 ∙ len .2, kept .1 .1 .1 .1 .0 ∙ len .3, kept .1 .1 .1 .1 .1 .0 ∙ len .4),
+        (kept .1 .0 ∙ len .0, kept .1 .1 .0 ∙ len .1, kept .1 .1 .1 .0 ∙ len .2, kept .1 .1 .1 .1 .0 ∙ len .3, kept .1 .1 .1 .1 .1 .0 ∙ len .4),
         columns _ _ _ _ _ _ _ _ _ _ _ _ (r .read .ensures) (answered r) done,
       ),
     )
 
 returns-2 : tie.Need-returns-2
 returns-2 c =
-    let p = c .before .before in
-    let r = p .before .before .before .before .before .before .before .before .before .before .before .before .before .before .before .before .before .before .before in
+    let p = c .before .before .before .before in
+    let r = p .before .before .before .before .before .before .before .before .before .before .before .before .before .before .before .before .before .before .before .before in
     let s = r .before .before .before .before .before .before .before .before .before .before .before .before .before in
-    let done = p .before .before .before .before .before .before .enum-told .given .1 in
+    let done = p .before .before .before .before .before .before .before .enum-told .given .1 in
     let e = ap answer-of (sym (answered r)) ∙ done in
     lists (s .args .bytes .now) (s .args .out .now) _ (s .pre .1) e
     (rw (text _ _ _ _ _ _ _ _ _ _ _ _ (r .read .ensures) (answered r) done) (p .list-slices .ensures))
