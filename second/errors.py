@@ -43,10 +43,10 @@ def error_3(state, x):
 
 def error_4_vote(state, a, b, reset):
     """Definition 16 to the letter: the alarm clause stands above the reset."""
+    right = vote.clauses(state, a, b, reset)
     if a == b or not reset:
-        return vote.clauses(state, a, b, False)
-    mark = vote.HELD if state.count < state.N - 1 else vote.ALARM
-    return vote.Answer(0, state.word, mark, state._replace(count=0))
+        return right
+    return right._replace(mark=vote.HELD if state.count < state.N - 1 else vote.ALARM)
 
 
 def error_4_reserve(state, a, b, c, d):
@@ -55,7 +55,7 @@ def error_4_reserve(state, a, b, c, d):
         return reserve.clauses(state, a, b, c, d)
     answer = error_4_vote(state.vote, c, d, True)
     after = reserve.State(reserve.RESERVE, answer.state)
-    return reserve.Answer(0, answer.word, answer.mark, 2, after)
+    return reserve.Answer(0, answer.word, answer.mark, 2, answer.which, after)
 
 
 def error_4_run(*arguments):

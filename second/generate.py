@@ -10,6 +10,7 @@ import groups_runs
 import groups_start
 import groups_steps
 import groups_tuple
+import groups_which
 import groups_words
 from chance import numbers
 from lines import line, listing_line, read_line, tuple_step
@@ -33,6 +34,11 @@ def started(kind, room, seed):
     room = room + cases(examples.requested('T-04', kind))
     calls = [case.call for case in room]
     return room + cases(groups_start.starts(kind, calls, numbers(seed)))
+
+
+def walked(kind, room, seed):
+    """The room with what T-09 adds at its end: the examples, then the groups."""
+    return room + cases(examples.requested('T-09', kind)) + cases(groups_which.which(kind, numbers(seed)))
 
 
 def confirm_room():
@@ -77,8 +83,8 @@ def vote_room():
     room += cases(groups_steps.edges_of_width('vote', 2))
     # Runs.
     room += cases(groups_runs.runs('vote', chance))
-    # T-04, the start from all ones.
-    return started('vote', room, 112)
+    # T-04, the start from all ones; T-09, which unit still shows the last agreed word.
+    return walked('vote', started('vote', room, 112), 117)
 
 
 def tuple_room():
@@ -104,8 +110,8 @@ def tuple_room():
     room += cases(groups_words.words(chance))
     # T-02, a count for the voters and one for confirmation: its example, then its groups.
     room += cases(examples.requested('T-02', 'tuple')) + cases(groups_counts.tuples(numbers(109)))
-    # T-04, the start from all ones.
-    return started('tuple', room, 113)
+    # T-04, the start from all ones; T-09, which unit still shows the last agreed bit, for each signal.
+    return walked('tuple', started('tuple', room, 113), 118)
 
 
 def reserve_room():
@@ -118,7 +124,7 @@ def reserve_room():
     # Error 4, the alarm stored as the last word: held after the hand-over, in a run.
     for N in (1, 2, 3, 5):
         room += cases(['reserve.run 3 %d 6 12 5*12 12 5 7*11 12 5*12 12 4*12 '
-                       '12 4277009102 12 170' % N], 4)
+                       '12 4277009102 12 170 12 9' % N], 4)
     # Constructors; steps in sequence; every clause; damaged and unreached states; edges.
     room += cases(groups_steps.constructors('reserve', chance))
     room += cases(groups_steps.sequences('reserve', chance))
@@ -128,8 +134,8 @@ def reserve_room():
     room += cases(groups_steps.edges_of_width('reserve', 4))
     # Runs.
     room += cases(groups_runs.runs('reserve', chance))
-    # T-04, the start from all ones.
-    return started('reserve', room, 114)
+    # T-04, the start from all ones; T-09, which unit of its pair still shows the last agreed word.
+    return walked('reserve', started('reserve', room, 114), 119)
 
 
 def sizing_room():

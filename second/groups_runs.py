@@ -39,7 +39,8 @@ def widths_and_counts(kind, chance):
 
 
 def unequal(kind, chance):
-    """One slice shorter or longer than the others, in each position, inputs and outputs."""
+    """One slice shorter or longer than the others, in each position, inputs and outputs; T-09's is as long as the first
+    column (groups_which.py has the others)."""
     positions = UNITS[kind] + len(OUTPUTS[kind])
     for position in range(positions):
         for length, other in ((5, 4), (5, 6), (5, 0), (0, 1), (5, 2049), (2048, 2047),

@@ -12,7 +12,7 @@ from lines import UNITS, counts_of, line
 MOST = 4294967295
 WIDTHS = [0, 1, 2, 3, 31, 32, 33, MOST]
 COUNTS = [0, 1, 2, 3, 999, 1000, 1001, MOST]
-BEFORE_STATE = {'confirm': 3, 'vote': 3, 'tuple': 4, 'reserve': 4}  # tokens of a step's answer
+BEFORE_STATE = {'confirm': 3, 'vote': 4, 'tuple': 5, 'reserve': 5}  # tokens of a step's answer
 
 
 def edge_words(n):

@@ -4,10 +4,12 @@ from chance import pick
 from protocol import show_slice
 
 UNITS = {'confirm': 1, 'vote': 2, 'tuple': 2, 'reserve': 4}
+# The output slices of a run but for the last one of a vote, which T-09 adds: bytes, words for the tuple vote.
 OUTPUTS = {'confirm': ['words', 'marks', 'counts'], 'vote': ['words', 'marks'],
            'tuple': ['words', 'masks', 'marks'], 'reserve': ['words', 'marks']}
 WORD_FILLS = [3735928559, 4277009102, 2863311530]
 MARK_FILLS = [7, 99, 170, 238]
+WHICH_FILLS = [9, 170, 88, 201, 46]  # no answers: these are 0 to 3
 
 TAG = 0x31525351  # "QSR1" as a little-endian number
 WELL_LENT = [(2048, 3735928559), (2048, 7), (2048, 4277009102), (2048, 2863311530), (2048, 99)]
@@ -29,7 +31,7 @@ def tuple_step(values):
 
 
 def lent_for(kind, length, chance):
-    """(length, fill) for each output slice of a run."""
+    """(length, fill) for each output slice of a run, but for T-09's."""
     return [(length, pick(chance, MARK_FILLS if output == 'marks' else WORD_FILLS))
             for output in OUTPUTS[kind]]
 
@@ -39,15 +41,24 @@ def lent_text(lent):
     return ' '.join('%d %d' % one for one in lent)
 
 
-def run_call(kind, plain, columns, lent):
-    """A call of a run: the plain numbers, the input columns, the output slices."""
+def last_for(kind, columns, lent):
+    """(length, fill) of T-09's slice in a run that names none: as long as the first column, so that it neither gives
+    cause for number 4 nor hides one. The fill follows from those of the other slices; no random number is taken."""
+    fills = WORD_FILLS if kind == 'tuple' else WHICH_FILLS
+    return len(columns[0]), fills[sum(fill for _, fill in lent) % len(fills)]
+
+
+def run_call(kind, plain, columns, lent, last=None):
+    """A call of a run: the plain numbers, the input columns, the output slices. last: T-09's slice."""
     lists = ' '.join(show_slice(column) for column in columns)
+    if kind != 'confirm':
+        lent = lent + [last or last_for(kind, columns, lent)]
     return '%s %s %s' % (line(kind + '.run', plain), lists, lent_text(lent))
 
 
-def run_line(kind, n, N, word, columns, lent):
+def run_line(kind, n, N, word, columns, lent, last=None):
     """A call of a run in which N serves for all counts."""
-    return run_call(kind, [n] + counts_of(kind, N) + [word], columns, lent)
+    return run_call(kind, [n] + counts_of(kind, N) + [word], columns, lent, last)
 
 
 def fields(units, samples, n, N, word):

@@ -1,7 +1,11 @@
-"""Tuple vote. Document 01, 'Tuple vote'; document 000, definition 15; T-02 and T-04 of document 02.
+"""Tuple vote. Document 01, 'Tuple vote'; document 000, definition 15; T-02, T-04 and T-09 of document 02.
 
 T-02: "the tuple vote keeps one for its voters and one for its confirmation". V is the voters' count, the same for
 every signal; N is the confirmation's. Neither need be the greater one.
+
+T-09: "The tuple vote passes it on for each signal", as "a word with a one where the signals differ and the second unit
+shows the agreed bit". "For single signals "neither" cannot occur": where the signals differ and the word has a zero,
+the first unit shows it.
 """
 
 from collections import namedtuple
@@ -16,8 +20,8 @@ CONFIRMED, HELD, ALARM = 0, 1, 2  # the mark byte
 # each signal
 State = namedtuple('State', 'V confirmation agreed counts')
 Made = namedtuple('Made', 'number state')
-Answer = namedtuple('Answer', 'number word mask mark state')
-Run = namedtuple('Run', 'number sample words masks marks')
+Answer = namedtuple('Answer', 'number word mask mark second state')
+Run = namedtuple('Run', 'number sample words masks marks seconds')
 
 
 def fresh(n, V, N, word):
@@ -56,7 +60,7 @@ def step(state, a, b):
     if number == 0 and damaged(state):
         number = 7
     if number != 0:
-        return Answer(number, 0, 0, rules.NO_MARK, state)
+        return Answer(number, 0, 0, rules.NO_MARK, 0, state)
     return clauses(state, a, b)
 
 
@@ -75,28 +79,32 @@ def clauses(state, a, b):
     # Voters of all signals step in either case.
     agreed = rules.word_of(answer.state.word for answer in answers)
     counts = tuple(answer.state.count for answer in answers) + state.counts[before.n:]
+    # T-09: what the voters say of each signal, those that hold and those that alarm; confirmation has no part in it.
+    second = rules.word_of(int(answer.which == vote.SECOND) for answer in answers)
     # If any alarms: the alarm mask with the previous output; confirmation takes no step.
     mask = rules.word_of(int(answer.mark == vote.ALARM) for answer in answers)
     if mask != 0:
-        return Answer(0, before.output, mask, ALARM, State(state.V, before, agreed, counts))
+        return Answer(0, before.output, mask, ALARM, second, State(state.V, before, agreed, counts))
     # Otherwise the voted word takes a step of confirmation, with N, which its state carries.
     voted = rules.word_of(answer.word for answer in answers)
     after = confirm.clauses(before, voted)
     mark = CONFIRMED if after.mark == confirm.CONFIRMED else HELD
-    return Answer(0, after.word, 0, mark, State(state.V, after.state, agreed, counts))
+    return Answer(0, after.word, 0, mark, second, State(state.V, after.state, agreed, counts))
 
 
-def run(n, V, N, word, a, b, words, masks, marks):
-    """A run equals its steps, taken from a fresh state."""
-    number, sample = rules.refuse_run(n, [V, N], word, [a, b], [words, masks, marks])
+def run(n, V, N, word, a, b, words, masks, marks, seconds):
+    """A run equals its steps, taken from a fresh state. T-09: `seconds` is "one more lent slice, covered by number 4",
+    a word for each sample."""
+    number, sample = rules.refuse_run(n, [V, N], word, [a, b], [words, masks, marks, seconds])
     if number != 0:
-        return Run(number, sample, words, masks, marks)
+        return Run(number, sample, words, masks, marks, seconds)
     state = fresh(n, V, N, word)
-    words, masks, marks = [], [], []
+    words, masks, marks, seconds = [], [], [], []
     for one, two in zip(a, b):
         answer = step(state, one, two)
         state = answer.state
         words.append(answer.word)
         masks.append(answer.mask)
         marks.append(answer.mark)
-    return Run(0, 0, words, masks, marks)
+        seconds.append(answer.second)
+    return Run(0, 0, words, masks, marks, seconds)

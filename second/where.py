@@ -8,6 +8,7 @@ VOTE = "document 01, 'Vote of two words', clauses 1 to 4; document 000, definiti
 TWO_COUNTS = '; T-02 of document 02 (two counts)'
 TUPLE = "document 01, 'Tuple vote'; document 000, definition 15" + TWO_COUNTS
 RESERVE = "document 01, 'Reserve vote'; document 000, definition 17"
+WHICH = '; T-09 of document 02 (which unit)'
 STEP = '; refusals 1, 2, 6, 7'
 RUN = '; refusals 1 to 6'
 
@@ -18,16 +19,16 @@ SETTLED = {
     'confirm.run': CONFIRM + RUN,
     'vote.new': NEW % 'Vote of two words',
     'vote.from_word': FROM_WORD % 'Vote of two words',
-    'vote.step': VOTE + STEP,
-    'vote.run': VOTE + RUN,
+    'vote.step': VOTE + WHICH + STEP,
+    'vote.run': VOTE + WHICH + RUN,
     'tuple.new': NEW % 'Tuple vote' + TWO_COUNTS,
     'tuple.from_word': FROM_WORD % 'Tuple vote' + TWO_COUNTS,
-    'tuple.step': TUPLE + STEP,
-    'tuple.run': TUPLE + RUN,
+    'tuple.step': TUPLE + WHICH + STEP,
+    'tuple.run': TUPLE + WHICH + RUN,
     'reserve.new': NEW % 'Reserve vote',
     'reserve.from_word': FROM_WORD % 'Reserve vote',
-    'reserve.step': RESERVE + STEP,
-    'reserve.run': RESERVE + RUN,
+    'reserve.step': RESERVE + WHICH + STEP,
+    'reserve.run': RESERVE + WHICH + RUN,
     'sizing': "document 01, 'Sizing'; document 000, 4.2.2 and 6.2" + TWO_COUNTS + '; refusals 2, 9, 10',
     'threshold': "document 01, 'Threshold vote'; document 000, 6.1; refusal 11",
     'recording.read': "document 01, 'The recording' (its own order of checks)",

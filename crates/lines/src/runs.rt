@@ -7,9 +7,10 @@ pub fn print_answer(answer: RunAnswer) {
     output::next(answer.sample());
 }
 
-pub fn print_voted(answer: RunAnswer, words: &[u32], marks: &[u8]) {
+pub fn print_voted(answer: RunAnswer, words: &[u32], marks: &[u8], which: &[u8]) {
     print_answer(answer);
     output::slice(words);
     output::bytes(marks);
+    output::bytes(which);
     output::end_line();
 }

@@ -55,6 +55,7 @@ fn step() {
     let answer = taken.answer;
     states::print_vote_answer(answer);
     output::next(taken.pair);
+    output::next(answer.which() as u32);
     let left = taken.state;
     print_state(left);
 }
@@ -82,50 +83,86 @@ fn run_on(
     d: &[u32],
     words: &mut [u32],
     marks: &mut [u8],
+    which: &mut [u8],
 ) {
-    let answer = reserve::run(n, need, word, a, b, c, d, words, marks);
-    runs::print_voted(answer, words, marks);
+    let answer = reserve::run(n, need, word, a, b, c, d, words, marks, which);
+    runs::print_voted(answer, words, marks, which);
 }
 
-// A run lent the first places of each slice, as many as its line says.
-fn run_in(
-    a: &mut [u32],
-    b: &mut [u32],
-    c: &mut [u32],
-    d: &mut [u32],
+// A run lent the first places of each slice that it writes, as many as its line says.
+fn run_lent(
+    n: u32,
+    need: u32,
+    word: u32,
+    a: &[u32],
+    b: &[u32],
+    c: &[u32],
+    d: &[u32],
     words: &mut [u32],
     marks: &mut [u8],
+    which: &mut [u8],
 ) {
-    let n = input::number();
-    let need = input::number();
-    let word = input::number();
-    let i = input::list(a);
-    let j = input::list(b);
-    let k = input::list(c);
-    let l = input::list(d);
     let w = input::lent(words);
     let m = input::lent_bytes(marks);
+    let u = input::lent_bytes(which);
     run_on(
         n,
         need,
         word,
-        &a[..i],
-        &b[..j],
-        &c[..k],
-        &d[..l],
+        a,
+        b,
+        c,
+        d,
         &mut words[..w],
         &mut marks[..m],
+        &mut which[..u],
     );
 }
 
+fn run_over(n: u32, need: u32, word: u32, a: &[u32], b: &[u32], c: &[u32], d: &[u32]) {
+    let mut words = room::places();
+    let mut marks = room::byte_places();
+    let mut which = room::byte_places();
+    run_lent(
+        n,
+        need,
+        word,
+        a,
+        b,
+        c,
+        d,
+        &mut words,
+        &mut marks,
+        &mut which,
+    );
+}
+
+// A run over the first places of each column, as many as its line says.
+fn run_in(
+    n: u32,
+    need: u32,
+    word: u32,
+    a: &mut [u32],
+    b: &mut [u32],
+    c: &mut [u32],
+    d: &mut [u32],
+) {
+    let i = input::list(a);
+    let j = input::list(b);
+    let k = input::list(c);
+    let l = input::list(d);
+    run_over(n, need, word, &a[..i], &b[..j], &c[..k], &d[..l]);
+}
+
 fn run() {
+    let n = input::number();
+    let need = input::number();
+    let word = input::number();
     let mut a = room::places();
     let mut b = room::places();
     let mut c = room::places();
     let mut d = room::places();
-    let mut words = room::places();
-    let mut marks = room::byte_places();
-    run_in(&mut a, &mut b, &mut c, &mut d, &mut words, &mut marks);
+    run_in(n, need, word, &mut a, &mut b, &mut c, &mut d);
 }
 
 // Makes the call of this name; false if there is none.

@@ -65,6 +65,7 @@ fn step() {
     output::next(answer.word());
     output::next(answer.mask());
     output::next(answer.mark() as u32);
+    output::next(taken.second);
     let left = taken.state;
     print_state(left);
 }
@@ -94,17 +95,26 @@ fn run_on(
     words: &mut [u32],
     masks: &mut [u32],
     marks: &mut [u8],
+    seconds: &mut [u32],
 ) {
-    let answer = tuple::run(n, votes, need, word, a, b, words, masks, marks);
+    let answer = tuple::run(n, votes, need, word, a, b, words, masks, marks, seconds);
     runs::print_answer(answer);
     output::slice(words);
     output::slice(masks);
     output::bytes(marks);
+    output::slice(seconds);
     output::end_line();
 }
 
 // A run lent the first places of each slice, as many as its line says.
-fn run_in(a: &mut [u32], b: &mut [u32], words: &mut [u32], masks: &mut [u32], marks: &mut [u8]) {
+fn run_in(
+    a: &mut [u32],
+    b: &mut [u32],
+    words: &mut [u32],
+    masks: &mut [u32],
+    marks: &mut [u8],
+    seconds: &mut [u32],
+) {
     let n = input::number();
     let votes = input::number();
     let need = input::number();
@@ -114,6 +124,7 @@ fn run_in(a: &mut [u32], b: &mut [u32], words: &mut [u32], masks: &mut [u32], ma
     let w = input::lent(words);
     let k = input::lent(masks);
     let m = input::lent_bytes(marks);
+    let s = input::lent(seconds);
     run_on(
         n,
         votes,
@@ -124,6 +135,7 @@ fn run_in(a: &mut [u32], b: &mut [u32], words: &mut [u32], masks: &mut [u32], ma
         &mut words[..w],
         &mut masks[..k],
         &mut marks[..m],
+        &mut seconds[..s],
     );
 }
 
@@ -133,7 +145,15 @@ fn run() {
     let mut words = room::places();
     let mut masks = room::places();
     let mut marks = room::byte_places();
-    run_in(&mut a, &mut b, &mut words, &mut masks, &mut marks);
+    let mut seconds = room::places();
+    run_in(
+        &mut a,
+        &mut b,
+        &mut words,
+        &mut masks,
+        &mut marks,
+        &mut seconds,
+    );
 }
 
 // Makes the call of this name; false if there is none.

@@ -26,6 +26,7 @@ fn step() {
     let taken = s.step(a, b, reset);
     let answer = taken.answer;
     states::print_vote_answer(answer);
+    output::next(answer.which() as u32);
     let left = taken.state;
     print_state(left);
 }
@@ -43,13 +44,22 @@ fn from_word() {
     print_made(Vote::from_word(n, need, word));
 }
 
-fn run_on(n: u32, need: u32, word: u32, a: &[u32], b: &[u32], words: &mut [u32], marks: &mut [u8]) {
-    let answer = vote::run(n, need, word, a, b, words, marks);
-    runs::print_voted(answer, words, marks);
+fn run_on(
+    n: u32,
+    need: u32,
+    word: u32,
+    a: &[u32],
+    b: &[u32],
+    words: &mut [u32],
+    marks: &mut [u8],
+    which: &mut [u8],
+) {
+    let answer = vote::run(n, need, word, a, b, words, marks, which);
+    runs::print_voted(answer, words, marks, which);
 }
 
 // A run lent the first places of each slice, as many as its line says.
-fn run_in(a: &mut [u32], b: &mut [u32], words: &mut [u32], marks: &mut [u8]) {
+fn run_in(a: &mut [u32], b: &mut [u32], words: &mut [u32], marks: &mut [u8], which: &mut [u8]) {
     let n = input::number();
     let need = input::number();
     let word = input::number();
@@ -57,6 +67,7 @@ fn run_in(a: &mut [u32], b: &mut [u32], words: &mut [u32], marks: &mut [u8]) {
     let j = input::list(b);
     let w = input::lent(words);
     let m = input::lent_bytes(marks);
+    let u = input::lent_bytes(which);
     run_on(
         n,
         need,
@@ -65,6 +76,7 @@ fn run_in(a: &mut [u32], b: &mut [u32], words: &mut [u32], marks: &mut [u8]) {
         &b[..j],
         &mut words[..w],
         &mut marks[..m],
+        &mut which[..u],
     );
 }
 
@@ -73,7 +85,8 @@ fn run() {
     let mut b = room::places();
     let mut words = room::places();
     let mut marks = room::byte_places();
-    run_in(&mut a, &mut b, &mut words, &mut marks);
+    let mut which = room::byte_places();
+    run_in(&mut a, &mut b, &mut words, &mut marks, &mut which);
 }
 
 // Makes the call of this name; false if there is none.

@@ -1,4 +1,4 @@
--- `reserves::run_in` lends as many places as each slice has at most.
+-- `reserves::run_in` lends as many places as each column has at most.
 use lib.ListN.{length-take}
 use native.Mathlib.Omega.{arith}
 use borrow.Author.Needs.{needs}
@@ -13,15 +13,6 @@ run-in-spec =
     (λ _ _. tt)
     (λ _ _. tt)
     (λ _ _. tt)
-    (λ _ _. tt)
-    (λ _ _. tt)
-    (λ _ _. tt)
-    (λ _ _. tt)
-    (λ _ _. tt)
-    (λ c. search needs)
-    (λ c. simp length-take (omega arith))
-    (λ c. search needs)
-    (λ c. simp length-take (omega arith))
     (λ c. search needs)
     (λ c. simp length-take (omega arith))
     (λ c. search needs)
@@ -31,8 +22,6 @@ run-in-spec =
     (λ c. search needs)
     (λ c. simp length-take (omega arith))
     (λ _ _. tt)
-    (λ c. search needs)
-    (λ c. search needs)
     (λ c. search needs)
     (λ c. search needs)
     (λ c. search needs)
