@@ -11,7 +11,7 @@ use Rattle.rules.specs.Table.{Row, first, Given, numbered}
 use Rattle.rules.specs.Refusals.{stepRows}
 use Rattle.rules.proofs.Tables.{or-neither, exactly}
 use Rattle.rules.proofs.OneTest.{one-reason-more, one-test-more, refused-number}
-use Rattle.vote.specs.Answers.{markOf}
+use Rattle.vote.specs.Answers.{markOf, whichOf}
 use Rattle.vote.specs.Vote.{badState}
 use Rattle.reserve.specs.Reserve.{clauses, stepOf}
 use Rattle.reserve.specs.declared.Reserve.{Reserve}
@@ -68,4 +68,6 @@ module _ (state : List ℕ) (a b c d : ℕ) where
 
   -- what the clauses show is the word that they leave in the state
   pub kept-as-shown : reserveKept (clauses s a b c d) ≡ reserveShown (clauses s a b c d)
-  kept-as-shown = ap (λ (w : ℕ). w ∷ markOf (clauses s a b c d .answer) ∷ clauses s a b c d .pair ∷ []) (sym (shown-stays s ((a, b), (c, d))))
+  kept-as-shown =
+      let t = clauses s a b c d in
+      ap (λ (w : ℕ). w ∷ markOf (t .answer) ∷ t .pair ∷ whichOf (t .answer) ∷ []) (sym (shown-stays s ((a, b), (c, d))))

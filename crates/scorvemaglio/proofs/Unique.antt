@@ -65,12 +65,12 @@ steps-says :
     → (r, state′, answer′) ≡ stepped number next shown state answer
 steps-says p = cc
 
--- a run: what the room's own determines, its answer as two numbers beside two slices, or three
-abbrev told-two : RunAnswer × List ℕ × List ℕ → ℕ × ℕ × List ℕ × List ℕ
-told-two (r, one, two) = (runNumber r, runSample r, one, two)
-
+-- a run: what the room's own determines, its answer as two numbers beside three slices, or four
 abbrev told-three : RunAnswer × List ℕ × List ℕ × List ℕ → ℕ × ℕ × List ℕ × List ℕ × List ℕ
 told-three (r, one, two, three) = (runNumber r, runSample r, one, two, three)
+
+abbrev told-four : RunAnswer × List ℕ × List ℕ × List ℕ × List ℕ → ℕ × ℕ × List ℕ × List ℕ × List ℕ × List ℕ
+told-four (r, one, two, three, four) = (runNumber r, runSample r, one, two, three, four)
 
 pub confirm-from-word-unique :
     (κs : Lfts 1)
@@ -122,12 +122,13 @@ pub vote-step-unique :
 vote-step-unique κs = fixes (λ a z e p. steps-says p)
 
 pub vote-run-unique :
-    (κs : Lfts 5)
+    (κs : Lfts 6)
     → Fixes (vote-run.Learnt κs)
-    (λ z e. let lent = e .1 .1 .1 .1 .1 in (z, now (lent .1 .1 .0), now (lent .0), now (lent .1 .0)))
+    (λ z e. let lent = e .1 .1 .1 .1 .1 in (z, now (lent .1 .1 .1 .0), now (lent .0), now (lent .1 .0), now (lent .1 .1 .0)))
     (λ a.
-    let lent = a .1 .1 .1 in
-    told-two (vote-ran (a .0) (a .1 .0) (a .1 .1 .0) (now (lent .0)) (now (lent .1 .0)) (now (lent .1 .1 .0)) (now (lent .1 .1 .1 .0))))
+    let units = a .1 .1 .1 in
+    let lent = units .1 .1 in
+    told-three (vote-ran (a .0) (a .1 .0) (a .1 .1 .0) (now (units .0)) (now (units .1 .0)) (now (lent .0)) (now (lent .1 .0)) (now (lent .1 .1 .0))))
 vote-run-unique κs = fixes (λ a z e p. let r = p .ran in let q = p .told in cc)
 
 pub tuple-from-word-unique :
@@ -151,12 +152,14 @@ pub tuple-step-unique :
 tuple-step-unique κs = fixes (λ a z e p. steps-says p)
 
 pub tuple-run-unique :
-    (κs : Lfts 6)
+    (κs : Lfts 7)
     → Fixes (tuple-run.Learnt κs)
-    (λ z e. let lent = e .1 .1 .1 .1 .1 .1 in (z, now (lent .1 .1 .1 .0), now (lent .0), now (lent .1 .0), now (lent .1 .1 .0)))
+    (λ z e. let lent = e .1 .1 .1 .1 .1 .1 in (z, now (lent .1 .1 .1 .1 .0), now (lent .0), now (lent .1 .0), now (lent .1 .1 .0), now (lent .1 .1 .1 .0)))
     (λ a.
-    let lent = a .1 .1 .1 .1 in
-    told-three (tuple-ran (a .0) (a .1 .0) (a .1 .1 .0) (a .1 .1 .1 .0) (now (lent .0)) (now (lent .1 .0)) (now (lent .1 .1 .0)) (now (lent .1 .1 .1 .0)) (now (lent .1 .1 .1 .1 .0))))
+    let units = a .1 .1 .1 .1 in
+    let lent = units .1 .1 in
+    told-four (tuple-ran (a .0) (a .1 .0) (a .1 .1 .0) (a .1 .1 .1 .0) (now (units .0)) (now (units .1 .0))
+    (now (lent .0)) (now (lent .1 .0)) (now (lent .1 .1 .0)) (now (lent .1 .1 .1 .0))))
 tuple-run-unique κs = fixes (λ a z e p. let r = p .ran in let q = p .told in cc)
 
 pub reserve-from-word-unique :
@@ -180,10 +183,12 @@ pub reserve-step-unique :
 reserve-step-unique κs = fixes (λ a z e p. steps-says p)
 
 pub reserve-run-unique :
-    (κs : Lfts 7)
+    (κs : Lfts 8)
     → Fixes (reserve-run.Learnt κs)
-    (λ z e. let lent = e .1 .1 .1 .1 .1 .1 .1 in (z, now (lent .1 .1 .0), now (lent .0), now (lent .1 .0)))
+    (λ z e. let lent = e .1 .1 .1 .1 .1 .1 .1 in (z, now (lent .1 .1 .1 .0), now (lent .0), now (lent .1 .0), now (lent .1 .1 .0)))
     (λ a.
-    let lent = a .1 .1 .1 in
-    told-two (reserve-ran (a .0) (a .1 .0) (a .1 .1 .0) (now (lent .0)) (now (lent .1 .0)) (now (lent .1 .1 .0)) (now (lent .1 .1 .1 .0)) (now (lent .1 .1 .1 .1 .0)) (now (lent .1 .1 .1 .1 .1 .0))))
+    let units = a .1 .1 .1 in
+    let lent = units .1 .1 .1 .1 in
+    told-three (reserve-ran (a .0) (a .1 .0) (a .1 .1 .0) (now (units .0)) (now (units .1 .0)) (now (units .1 .1 .0)) (now (units .1 .1 .1 .0))
+    (now (lent .0)) (now (lent .1 .0)) (now (lent .1 .1 .0))))
 reserve-run-unique κs = fixes (λ a z e p. let r = p .ran in let q = p .told in cc)

@@ -11,14 +11,15 @@ pub record RunsConfirm (n need word : ℕ) (samples words marks counts : List �
   pub told : Tells (confirmRun.answerOf n need word samples words marks counts) r sample′
   pub ran : confirmRun.Ran n need word samples words marks counts (confirmRun.answerOf n need word samples words marks counts) words′ marks′ counts′
 
-pub record RunsVote (n need word : ℕ) (a b words marks : List ℕ) (r sample′ : ℕ) (words′ marks′ : List ℕ) : Type 0 where
-  pub told : Tells (voteRun.answerOf n need word a b words marks) r sample′
-  pub ran : voteRun.Ran n need word a b words marks (voteRun.answerOf n need word a b words marks) words′ marks′
+pub record RunsVote (n need word : ℕ) (a b words marks which : List ℕ) (r sample′ : ℕ) (words′ marks′ which′ : List ℕ) : Type 0 where
+  pub told : Tells (voteRun.answerOf n need word a b words marks which) r sample′
+  pub ran : voteRun.Ran n need word a b words marks which (voteRun.answerOf n need word a b words marks which) words′ marks′ which′
 
-pub record RunsTuple (n votes need word : ℕ) (a b words masks marks : List ℕ) (r sample′ : ℕ) (words′ masks′ marks′ : List ℕ) : Type 0 where
-  pub told : Tells (tupleRun.answerOf n votes need word a b words masks marks) r sample′
-  pub ran : tupleRun.Ran n votes need word a b words masks marks (tupleRun.answerOf n votes need word a b words masks marks) words′ masks′ marks′
+pub record RunsTuple (n votes need word : ℕ) (a b words masks marks seconds : List ℕ) (r sample′ : ℕ) (words′ masks′ marks′ seconds′ : List ℕ) : Type 0 where
+  pub told : Tells (tupleRun.answerOf n votes need word a b words masks marks seconds) r sample′
+  pub ran :
+      tupleRun.Ran n votes need word a b words masks marks seconds (tupleRun.answerOf n votes need word a b words masks marks seconds) words′ masks′ marks′ seconds′
 
-pub record RunsReserve (n need word : ℕ) (a b c d words marks : List ℕ) (r sample′ : ℕ) (words′ marks′ : List ℕ) : Type 0 where
-  pub told : Tells (reserveRun.answerOf n need word a b c d words marks) r sample′
-  pub ran : reserveRun.Ran n need word a b c d words marks (reserveRun.answerOf n need word a b c d words marks) words′ marks′
+pub record RunsReserve (n need word : ℕ) (a b c d words marks which : List ℕ) (r sample′ : ℕ) (words′ marks′ which′ : List ℕ) : Type 0 where
+  pub told : Tells (reserveRun.answerOf n need word a b c d words marks which) r sample′
+  pub ran : reserveRun.Ran n need word a b c d words marks which (reserveRun.answerOf n need word a b c d words marks which) words′ marks′ which′

@@ -29,22 +29,22 @@ MakesTuple m = Makes (m .refusal) (tupleNumbers (m .state))
 abbrev pub MakesReserve : ReserveMade → List ℕ → ℕ → List ℕ → Type 0
 MakesReserve m = Makes (m .refusal) (reserveNumbers (m .state))
 
--- what a step shows: the word, the mark, and the tuple vote's mask or the pair voted on
+-- what a step shows: the word, the mark, the tuple vote's mask or the pair voted on, and of a vote, last, what T-09 has it tell
 abbrev pub confirmShown : ConfirmStep → List ℕ
 confirmShown t = confirmAnswers.wordOf (t .answer) ∷ confirmAnswers.markOf (t .answer) ∷ []
 
 abbrev pub voteShown : VoteStep → List ℕ
-voteShown t = voteAnswers.wordOf (t .answer) ∷ voteAnswers.markOf (t .answer) ∷ []
+voteShown t = voteAnswers.wordOf (t .answer) ∷ voteAnswers.markOf (t .answer) ∷ voteAnswers.whichOf (t .answer) ∷ []
 
 abbrev pub tupleShown : TupleStep → List ℕ
-tupleShown t = tupleAnswers.wordOf (t .answer) ∷ tupleAnswers.markOf (t .answer) ∷ tupleAnswers.maskOf (t .answer) ∷ []
+tupleShown t = tupleAnswers.wordOf (t .answer) ∷ tupleAnswers.markOf (t .answer) ∷ tupleAnswers.maskOf (t .answer) ∷ t .second ∷ []
 
 abbrev pub reserveShown : ReserveStep → List ℕ
-reserveShown t = voteAnswers.wordOf (t .answer) ∷ voteAnswers.markOf (t .answer) ∷ t .pair ∷ []
+reserveShown t = voteAnswers.wordOf (t .answer) ∷ voteAnswers.markOf (t .answer) ∷ t .pair ∷ voteAnswers.whichOf (t .answer) ∷ []
 
 -- the same, its word taken from the state that the step leaves
 abbrev pub reserveKept : ReserveStep → List ℕ
-reserveKept t = t .state .vote .word ∷ voteAnswers.markOf (t .answer) ∷ t .pair ∷ []
+reserveKept t = t .state .vote .word ∷ voteAnswers.markOf (t .answer) ∷ t .pair ∷ voteAnswers.whichOf (t .answer) ∷ []
 
 -- the step's own number, and 7 too where the state's phase is no phase
 abbrev pub reserveNumber : List ℕ → ReserveStep → ℕ

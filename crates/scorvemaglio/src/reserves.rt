@@ -73,7 +73,7 @@ fn put_made(state: &mut [u32; 5], made: ReserveMade) -> u32
 
 // The state that a step leaves and what it shows are written. The word shown is the one that its vote keeps: so it need not be
 // taken out of the answer.
-fn put_step(state: &mut [u32; 5], answer: &mut [u32; 3], taken: ReserveStep)
+fn put_step(state: &mut [u32; 5], answer: &mut [u32; 4], taken: ReserveStep)
     ensures { λ _. ⌜ now (state .exit) ≡ reserveNumbers (taken .state) ⌝ }
     ensures { λ _. ⌜ now (answer .exit) ≡ reserveKept taken ⌝ }
 {
@@ -81,7 +81,12 @@ fn put_step(state: &mut [u32; 5], answer: &mut [u32; 3], taken: ReserveStep)
     let vote = left.vote;
     let shown = taken.answer;
     *state = reserve_numbers(left);
-    *answer = [vote.word, shown.mark() as u32, taken.pair];
+    *answer = [
+        vote.word,
+        shown.mark() as u32,
+        taken.pair,
+        shown.which() as u32,
+    ];
 }
 
 #[no_mangle]
@@ -110,7 +115,7 @@ pub extern "C" fn scorve_reserve_step(
     b: u32,
     c: u32,
     d: u32,
-    answer: &mut [u32; 3],
+    answer: &mut [u32; 4],
 ) -> u32
     ensures { λ r. ⌜ StepsReserve (stepOf (reserveOf (now (state .entry))) a b c d) (now (state .entry)) (now (answer .entry))
         r (now (state .exit)) (now (answer .exit)) ⌝ }
@@ -140,13 +145,15 @@ pub extern "C" fn scorve_reserve_run(
     d: &[u32],
     words: &mut [u32],
     marks: &mut [u8],
+    which: &mut [u8],
     sample: &mut u32,
 ) -> u32
-    ensures { λ r. ⌜ RunsReserve n need word (now (a .entry)) (now (b .entry)) (now (c .entry)) (now (d .entry)) (now (words .entry)) (now (marks .entry))
-        r (now (sample .exit)) (now (words .exit)) (now (marks .exit)) ⌝ }
+    ensures { λ r. ⌜ RunsReserve n need word (now (a .entry)) (now (b .entry)) (now (c .entry)) (now (d .entry))
+        (now (words .entry)) (now (marks .entry)) (now (which .entry))
+        r (now (sample .exit)) (now (words .exit)) (now (marks .exit)) (now (which .exit)) ⌝ }
 {
     crate::tell(
         sample,
-        reserve::run(n, need, word, a, b, c, d, words, marks),
+        reserve::run(n, need, word, a, b, c, d, words, marks, which),
     )
 }

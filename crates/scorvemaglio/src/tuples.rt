@@ -81,7 +81,7 @@ fn put_made(state: &mut [u32; NUMBERS], made: TupleMade) -> u32
 }
 
 // Where a step was taken, the state that it leaves and what it shows are written.
-fn put_step(state: &mut [u32; NUMBERS], answer: &mut [u32; 3], taken: TupleStep) -> u32
+fn put_step(state: &mut [u32; NUMBERS], answer: &mut [u32; 4], taken: TupleStep) -> u32
     ensures { λ r. ⌜ StepsTuple taken (now (state .entry)) (now (answer .entry)) r (now (state .exit)) (now (answer .exit)) ⌝ }
 {
     let shown = taken.answer;
@@ -90,7 +90,12 @@ fn put_step(state: &mut [u32; NUMBERS], answer: &mut [u32; 3], taken: TupleStep)
         return number;
     }
     *state = tuple_numbers(taken.state);
-    *answer = [shown.word(), shown.mark() as u32, shown.mask()];
+    *answer = [
+        shown.word(),
+        shown.mark() as u32,
+        shown.mask(),
+        taken.second,
+    ];
     0
 }
 
@@ -119,7 +124,7 @@ pub extern "C" fn scorve_tuple_step(
     state: &mut [u32; NUMBERS],
     a: u32,
     b: u32,
-    answer: &mut [u32; 3],
+    answer: &mut [u32; 4],
 ) -> u32
     ensures { λ r. ⌜ StepsTuple (stepOf (tupleOf (now (state .entry))) a b) (now (state .entry)) (now (answer .entry))
         r (now (state .exit)) (now (answer .exit)) ⌝ }
@@ -139,13 +144,15 @@ pub extern "C" fn scorve_tuple_run(
     words: &mut [u32],
     masks: &mut [u32],
     marks: &mut [u8],
+    seconds: &mut [u32],
     sample: &mut u32,
 ) -> u32
-    ensures { λ r. ⌜ RunsTuple n votes need word (now (a .entry)) (now (b .entry)) (now (words .entry)) (now (masks .entry)) (now (marks .entry))
-        r (now (sample .exit)) (now (words .exit)) (now (masks .exit)) (now (marks .exit)) ⌝ }
+    ensures { λ r. ⌜ RunsTuple n votes need word (now (a .entry)) (now (b .entry))
+        (now (words .entry)) (now (masks .entry)) (now (marks .entry)) (now (seconds .entry))
+        r (now (sample .exit)) (now (words .exit)) (now (masks .exit)) (now (marks .exit)) (now (seconds .exit)) ⌝ }
 {
     crate::tell(
         sample,
-        tuple::run(n, votes, need, word, a, b, words, masks, marks),
+        tuple::run(n, votes, need, word, a, b, words, masks, marks, seconds),
     )
 }

@@ -2,7 +2,7 @@
 ghost use mathlib.Core.Path.{_≡_};
 ghost use Rattle.scorvemaglio.specs.Version.{version};
 
-const VERSION: u32 = 4;
+const VERSION: u32 = 5;
 
 #[no_mangle]
 pub extern "C" fn scorve_version() -> u32
@@ -13,4 +13,4 @@ pub extern "C" fn scorve_version() -> u32
 
 // Does nothing: an object that was compiled with the header of another version refers to another name, and does not link.
 #[no_mangle]
-pub extern "C" fn scorve_abi_4() {}
+pub extern "C" fn scorve_abi_5() {}

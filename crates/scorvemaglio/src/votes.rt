@@ -40,7 +40,7 @@ fn put_made(state: &mut [u32; 4], made: VoteMade) -> u32
 }
 
 // Where a step was taken, the state that it leaves and what it shows are written.
-fn put_step(state: &mut [u32; 4], answer: &mut [u32; 2], taken: VoteStep) -> u32
+fn put_step(state: &mut [u32; 4], answer: &mut [u32; 3], taken: VoteStep) -> u32
     ensures { λ r. ⌜ StepsVote taken (now (state .entry)) (now (answer .entry)) r (now (state .exit)) (now (answer .exit)) ⌝ }
 {
     let shown = taken.answer;
@@ -49,7 +49,7 @@ fn put_step(state: &mut [u32; 4], answer: &mut [u32; 2], taken: VoteStep) -> u32
         return number;
     }
     *state = vote_numbers(taken.state);
-    *answer = [shown.word(), shown.mark() as u32];
+    *answer = [shown.word(), shown.mark() as u32, shown.which() as u32];
     0
 }
 
@@ -73,7 +73,7 @@ pub extern "C" fn scorve_vote_step(
     a: u32,
     b: u32,
     reset: u32,
-    answer: &mut [u32; 2],
+    answer: &mut [u32; 3],
 ) -> u32
     ensures { λ r. ⌜ StepsVote (stepOf (voteOf (now (state .entry))) a b (not (eqb reset 0))) (now (state .entry)) (now (answer .entry))
         r (now (state .exit)) (now (answer .exit)) ⌝ }
@@ -91,10 +91,11 @@ pub extern "C" fn scorve_vote_run(
     b: &[u32],
     words: &mut [u32],
     marks: &mut [u8],
+    which: &mut [u8],
     sample: &mut u32,
 ) -> u32
-    ensures { λ r. ⌜ RunsVote n need word (now (a .entry)) (now (b .entry)) (now (words .entry)) (now (marks .entry))
-        r (now (sample .exit)) (now (words .exit)) (now (marks .exit)) ⌝ }
+    ensures { λ r. ⌜ RunsVote n need word (now (a .entry)) (now (b .entry)) (now (words .entry)) (now (marks .entry)) (now (which .entry))
+        r (now (sample .exit)) (now (words .exit)) (now (marks .exit)) (now (which .exit)) ⌝ }
 {
-    crate::tell(sample, vote::run(n, need, word, a, b, words, marks))
+    crate::tell(sample, vote::run(n, need, word, a, b, words, marks, which))
 }

@@ -64,11 +64,11 @@ Holds (count-n n Tm tm TM tM D d is need) = sizingOf n tm tM d .need ≡ need
 Holds (sizing-n n Tm tm TM tM D d refused number) = sizingOf n tm tM d ≡ notSized number
 Holds (recording s lists lines) = textOf s ≡ asText lines
 Holds (vote-n n N need from word lists lines) =
-    (voteRun.answerOf n need word (column (λ x. x .0) lines) (column (λ x. x .1) lines) (map wordIn lines) (map markIn lines) ≡ Done)
+    (voteRun.answerOf n need word (column (λ x. x .0) lines) (column (λ x. x .1) lines) (map wordIn lines) (map markIn lines) (map markIn lines) ≡ Done)
     × (map voteRun.shownWord (voteRun.steps (vote.fresh n need word) (map seenIn lines)) ≡ map wordIn lines)
     × (map voteRun.shownMark (voteRun.steps (vote.fresh n need word) (map seenIn lines)) ≡ map markIn lines)
 Holds (reserve-n n N need from word lists lines) =
-    (reserveRun.answerOf n need word (column (λ x. x .0 .0) lines) (column (λ x. x .0 .1) lines) (column (λ x. x .1 .0) lines) (column (λ x. x .1 .1) lines) (map wordIn lines) (map markIn lines) ≡ Done)
+    (reserveRun.answerOf n need word (column (λ x. x .0 .0) lines) (column (λ x. x .0 .1) lines) (column (λ x. x .1 .0) lines) (column (λ x. x .1 .1) lines) (map wordIn lines) (map markIn lines) (map markIn lines) ≡ Done)
     × (map reserveRun.shownWord (reserveRun.steps (reserve.fresh n need word) (map seenIn lines)) ≡ map wordIn lines)
     × (map reserveRun.shownMark (reserveRun.steps (reserve.fresh n need word) (map seenIn lines)) ≡ map markIn lines)
 Holds (readings x1 and x2 and x3 tolerance t agreed m) = thresholdOf (record { x1 = x1; x2 = x2; x3 = x3; tolerance = t }) ≡ Agreed m

@@ -6,8 +6,9 @@ use Rattle.scorvemaglio.proofs.votes.put_step.Tie as tie
 
 returns-2 : tie.Need-returns-2
 returns-2 c =
-    let numbered = c .before .before .before .before .before .number .ensures in
-    rw (c .before .before .before .vote-numbers .ensures, c .before .before .word .ensures, c .before .mark .ensures) (taken numbered (c .before .before .before .before .if1 .left))
+    let m = c .before .before in
+    let b = m .before .before .before in
+    rw (m .before .before .vote-numbers .ensures, m .before .word .ensures, m .mark .ensures, c .before .which .ensures) (taken (b .before .number .ensures) (b .if1 .left))
 
 pub put-step-spec : {M : Type 1} → statement M
-put-step-spec = tie.close (tie.spec (λ _ _. tt) (λ c. not-taken (c .before .number .ensures) (c .if1 .taken)) (λ _ _. tt) (λ _ _. tt) (λ _ _. tt) (λ c. search needs) returns-2)
+put-step-spec = tie.close (tie.spec (λ _ _. tt) (λ c. not-taken (c .before .number .ensures) (c .if1 .taken)) (λ _ _. tt) (λ _ _. tt) (λ _ _. tt) (λ c. search needs) (λ _ _. tt) (λ c. search needs) returns-2)

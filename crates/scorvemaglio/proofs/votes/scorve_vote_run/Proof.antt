@@ -5,8 +5,8 @@ use Rattle.scorvemaglio.proofs.votes.scorve_vote_run.Tie as tie
 
 returns : tie.Need-returns
 returns c =
-    let e = c .before .before .before .before .before .run .ensures in
+    let e = c .before .before .before .before .before .before .before .run .ensures in
     record { told = rw (← e .answered) (c .tell .ensures); ran = rw (← e .answered) e }
 
 pub scorve-vote-run-spec : {M : Type 1} → statement M
-scorve-vote-run-spec = tie.close (tie.spec (λ _ _. tt) (λ _ _. tt) (λ c. search needs) (λ c. search needs) returns)
+scorve-vote-run-spec = tie.close (tie.spec (λ _ _. tt) (λ _ _. tt) (λ c. search needs) (λ c. search needs) (λ c. search needs) returns)
