@@ -26,13 +26,14 @@ void call_confirm_run(const struct side *side, const struct inputs *in, struct o
 
 void call_vote_run(const struct side *side, const struct inputs *in, struct outputs *out)
 {
-  out->returned[0] = side->vote_run(in->n, in->need, in->word, IN(0), IN(1), WORDS(0), BYTES(1), &out->sample);
+  out->returned[0] = side->vote_run(in->n, in->need, in->word, IN(0), IN(1), WORDS(0), BYTES(1), BYTES(2),
+                                    &out->sample);
 }
 
 static void tuple_run(const struct side *side, uint32_t votes, const struct inputs *in, struct outputs *out)
 {
   out->returned[0] = side->tuple_run(in->n, votes, in->need, in->word, IN(0), IN(1), WORDS(0), WORDS(1), BYTES(2),
-                                     &out->sample);
+                                     WORDS(3), &out->sample);
 }
 
 void call_tuple_run(const struct side *side, const struct inputs *in, struct outputs *out)
@@ -48,7 +49,7 @@ void call_tuple_run_apart(const struct side *side, const struct inputs *in, stru
 void call_reserve_run(const struct side *side, const struct inputs *in, struct outputs *out)
 {
   out->returned[0] = side->reserve_run(in->n, in->need, in->word, IN(0), IN(1), IN(2), IN(3), WORDS(0), BYTES(1),
-                                       &out->sample);
+                                       BYTES(2), &out->sample);
 }
 
 void call_confirm_steps(const struct side *side, const struct inputs *in, struct outputs *out)

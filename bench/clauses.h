@@ -58,6 +58,20 @@ static inline uint32_t vote(uint32_t need, uint32_t *agreed, uint32_t *count, ui
   return SCORVE_ALARM;
 }
 
+/* The unit that still shows the last agreed word; asked before the vote. */
+static inline uint32_t which_shows(uint32_t agreed, uint32_t a, uint32_t b)
+{
+  if (a == b) return SCORVE_UNITS_AGREE;
+  if (a == agreed) return SCORVE_FIRST;
+  return b == agreed ? SCORVE_SECOND : SCORVE_NEITHER;
+}
+
+/* The same of every signal: a one where the two differ and the second is as agreed. */
+static inline uint32_t second_shows(uint32_t agreed, uint32_t a, uint32_t b)
+{
+  return (a ^ b) & ~(b ^ agreed);
+}
+
 static inline scorve_tuple fresh_tuple(uint32_t n, uint32_t votes, uint32_t need, uint32_t word)
 {
   return (scorve_tuple){.votes = votes, .n = n, .need = need, .input = word, .output = word, .agreed = word};
@@ -98,6 +112,12 @@ static inline uint32_t reserve_vote(uint32_t need, uint32_t *phase, uint32_t *ag
   const int reset = *phase == SCORVE_TAKING_OVER;
   *phase = SCORVE_RESERVE;
   return vote(need, agreed, count, c, d, reset);
+}
+
+/* The unit of the pair in force. */
+static inline uint32_t reserve_shows(uint32_t phase, uint32_t agreed, uint32_t a, uint32_t b, uint32_t c, uint32_t d)
+{
+  return phase == SCORVE_PRIMARY ? which_shows(agreed, a, b) : which_shows(agreed, c, d);
 }
 
 #endif

@@ -80,6 +80,7 @@ uint32_t plain_vote_step(scorve_vote *state, uint32_t a, uint32_t b, uint32_t re
   const uint32_t high = outside(state->n);
   if ((a | b) & high) return SCORVE_BAD_SAMPLE;
   if (state->count >= state->need || state->word & high) return SCORVE_BAD_STATE;
+  answer->which = which_shows(state->word, a, b);
   answer->mark = vote(state->need, &state->word, &state->count, a, b, reset != 0);
   answer->word = state->word;
   return SCORVE_OK;
@@ -90,15 +91,17 @@ uint32_t plain_vote_run(uint32_t n, uint32_t need, uint32_t word,
                         const uint32_t *b, size_t b_len,
                         uint32_t *words, size_t words_len,
                         uint8_t *marks, size_t marks_len,
+                        uint8_t *which, size_t which_len,
                         uint32_t *sample)
 {
   *sample = 0;
-  const int same = b_len == a_len && words_len == a_len && marks_len == a_len;
+  const int same = b_len == a_len && words_len == a_len && marks_len == a_len && which_len == a_len;
   uint32_t refusal = check_run(n, need, word, longer(a_len, b_len), same);
   if (!refusal) refusal = check_samples(n, a, b, a, b, a_len, sample);
   if (refusal) return refusal;
   uint32_t agreed = word, count = 0;
   for (size_t i = 0; i < a_len; i++) {
+    which[i] = (uint8_t)which_shows(agreed, a[i], b[i]);
     marks[i] = (uint8_t)vote(need, &agreed, &count, a[i], b[i], 0);
     words[i] = agreed;
   }
@@ -124,6 +127,7 @@ uint32_t plain_tuple_step(scorve_tuple *state, uint32_t a, uint32_t b, scorve_tu
   if ((a | b) & high) return SCORVE_BAD_SAMPLE;
   if (state->count >= state->need || (state->input | state->output | state->agreed) & high) return SCORVE_BAD_STATE;
   if (!counts_fit(state)) return SCORVE_BAD_STATE;
+  answer->second = second_shows(state->agreed, a, b);
   answer->mark = tuple_vote(state, a, b, &answer->mask);
   answer->word = state->output;
   return SCORVE_OK;
@@ -135,16 +139,19 @@ uint32_t plain_tuple_run(uint32_t n, uint32_t votes, uint32_t need, uint32_t wor
                          uint32_t *words, size_t words_len,
                          uint32_t *masks, size_t masks_len,
                          uint8_t *marks, size_t marks_len,
+                         uint32_t *seconds, size_t seconds_len,
                          uint32_t *sample)
 {
   *sample = 0;
   if (bad_count(votes)) return SCORVE_BAD_COUNT;
-  const int same = b_len == a_len && words_len == a_len && masks_len == a_len && marks_len == a_len;
+  const int same = b_len == a_len && words_len == a_len && masks_len == a_len && marks_len == a_len &&
+                   seconds_len == a_len;
   uint32_t refusal = check_run(n, need, word, longer(a_len, b_len), same);
   if (!refusal) refusal = check_samples(n, a, b, a, b, a_len, sample);
   if (refusal) return refusal;
   scorve_tuple state = fresh_tuple(n, votes, need, word);
   for (size_t i = 0; i < a_len; i++) {
+    seconds[i] = second_shows(state.agreed, a[i], b[i]);
     marks[i] = (uint8_t)tuple_vote(&state, a[i], b[i], &masks[i]);
     words[i] = state.output;
   }
@@ -162,6 +169,7 @@ uint32_t plain_reserve_step(scorve_reserve *state, uint32_t a, uint32_t b, uint3
   if ((a | b | c | d) & high) return SCORVE_BAD_SAMPLE;
   if (state->count >= state->need || state->word & high || state->phase > SCORVE_RESERVE) return SCORVE_BAD_STATE;
   answer->pair = state->phase == SCORVE_PRIMARY ? 1 : 2;
+  answer->which = reserve_shows(state->phase, state->word, a, b, c, d);
   answer->mark = reserve_vote(state->need, &state->phase, &state->word, &state->count, a, b, c, d);
   answer->word = state->word;
   return SCORVE_OK;
@@ -174,15 +182,18 @@ uint32_t plain_reserve_run(uint32_t n, uint32_t need, uint32_t word,
                            const uint32_t *d, size_t d_len,
                            uint32_t *words, size_t words_len,
                            uint8_t *marks, size_t marks_len,
+                           uint8_t *which, size_t which_len,
                            uint32_t *sample)
 {
   *sample = 0;
-  const int same = b_len == a_len && c_len == a_len && d_len == a_len && words_len == a_len && marks_len == a_len;
+  const int same = b_len == a_len && c_len == a_len && d_len == a_len && words_len == a_len && marks_len == a_len &&
+                   which_len == a_len;
   uint32_t refusal = check_run(n, need, word, longer(longer(a_len, b_len), longer(c_len, d_len)), same);
   if (!refusal) refusal = check_samples(n, a, b, c, d, a_len, sample);
   if (refusal) return refusal;
   uint32_t phase = SCORVE_PRIMARY, agreed = word, count = 0;
   for (size_t i = 0; i < a_len; i++) {
+    which[i] = (uint8_t)reserve_shows(phase, agreed, a[i], b[i], c[i], d[i]);
     marks[i] = (uint8_t)reserve_vote(need, &phase, &agreed, &count, a[i], b[i], c[i], d[i]);
     words[i] = agreed;
   }

@@ -10,8 +10,17 @@
 
 static uint8_t recording[SCORVE_LONGEST_RECORDING + 1]; /* a longer one is none, and the reader says so */
 static uint32_t times[SAMPLES], one[SAMPLES], two[SAMPLES], three[SAMPLES], four[SAMPLES];
-static uint32_t words[SAMPLES], masks[SAMPLES];
+static uint32_t words[SAMPLES], masks[SAMPLES], seconds[SAMPLES];
 static uint8_t marks[SAMPLES], text[SCORVE_LONGEST_LISTING];
+
+/* Of the signals that differ unit 2 shows the last agreed value of some, and unit 1 of the others. */
+static void print_alarm(size_t i)
+{
+  const uint32_t first = (one[i] ^ two[i]) & ~seconds[i];
+  printf("alarm at sample %u, %u us: unit 1 shows %08x, unit 2 %08x; signals %08x, word %08x\n", (unsigned)i,
+         (unsigned)times[i], (unsigned)one[i], (unsigned)two[i], (unsigned)masks[i], (unsigned)words[i]);
+  printf("  the last agreed values: unit 1 still shows %08x, unit 2 %08x\n", (unsigned)first, (unsigned)seconds[i]);
+}
 
 /* Votes on the whole trace; every slice of a run has as many places as the trace has samples. A recording's need
  * serves the voters and the confirmation. */
@@ -19,7 +28,8 @@ static void print_alarms(const scorve_header *header)
 {
   const size_t samples = header->samples;
   uint32_t sample, refusal = scorve_tuple_run(header->n, header->need, header->need, header->word, one, samples,
-                                              two, samples, words, samples, masks, samples, marks, samples, &sample);
+                                              two, samples, words, samples, masks, samples, marks, samples,
+                                              seconds, samples, &sample);
   size_t i;
   if (refusal != SCORVE_OK) {
     printf("the run is refused with %u at sample %u\n", (unsigned)refusal, (unsigned)sample);
@@ -27,8 +37,7 @@ static void print_alarms(const scorve_header *header)
   }
   for (i = 0; i < samples; i++)
     if (marks[i] == SCORVE_ALARM)
-      printf("alarm at sample %u, %u us: unit 1 shows %08x, unit 2 %08x; signals %08x, word %08x\n", (unsigned)i,
-             (unsigned)times[i], (unsigned)one[i], (unsigned)two[i], (unsigned)masks[i], (unsigned)words[i]);
+      print_alarm(i);
 }
 
 /* The text has no terminating NUL, so its length is given. */

@@ -6,7 +6,7 @@
 #![allow(dead_code)] // a program uses what it needs
 
 // The numbers of the header, under its names. `.ci/test-rust-header` compares all that is declared here with it.
-pub const VERSION: u32 = 4;
+pub const VERSION: u32 = 5;
 pub const MAX_WIDTH: usize = 32;
 pub const MAX_COUNT: u32 = 1000;
 pub const MAX_SAMPLES: usize = 2048;
@@ -34,6 +34,12 @@ pub const AGREED: u32 = 0;
 pub const HELD: u32 = 1;
 pub const ALARM: u32 = 2;
 
+/// Which unit still shows the last agreed word: a place in the pair that was voted on.
+pub const UNITS_AGREE: u32 = 0;
+pub const FIRST: u32 = 1;
+pub const SECOND: u32 = 2;
+pub const NEITHER: u32 = 3;
+
 /// The phase of a reserve vote.
 pub const PRIMARY: u32 = 0;
 pub const TAKING_OVER: u32 = 1;
@@ -51,12 +57,12 @@ macro_rules! c_struct {
 c_struct!(Confirm { n: u32, need: u32, input: u32, output: u32, count: u32 });
 c_struct!(ConfirmAnswer { word: u32, mark: u32 });
 c_struct!(Vote { n: u32, need: u32, word: u32, count: u32 });
-c_struct!(VoteAnswer { word: u32, mark: u32 });
+c_struct!(VoteAnswer { word: u32, mark: u32, which: u32 });
 c_struct!(Tuple { votes: u32, n: u32, need: u32, input: u32, output: u32, count: u32, agreed: u32,
     counts: [u32; MAX_WIDTH] });
-c_struct!(TupleAnswer { word: u32, mark: u32, mask: u32 });
+c_struct!(TupleAnswer { word: u32, mark: u32, mask: u32, second: u32 });
 c_struct!(Reserve { phase: u32, n: u32, need: u32, word: u32, count: u32 });
-c_struct!(ReserveAnswer { word: u32, mark: u32, pair: u32 });
+c_struct!(ReserveAnswer { word: u32, mark: u32, pair: u32, which: u32 });
 c_struct!(Sizing { count: u64, votes: u64, age: u64, quiet: u64 });
 c_struct!(Readings { x1: f64, x2: f64, x3: f64, tolerance: f64 });
 c_struct!(Header { units: u32, samples: u32, n: u32, need: u32, word: u32 });
@@ -64,35 +70,37 @@ c_struct!(Header { units: u32, samples: u32, n: u32, need: u32, word: u32 });
 // A reference is passed as a pointer, a slice as a pointer and a length.
 type In = *const u32;
 type Out = *mut u32;
-type Marks = *mut u8;
+type Bytes = *mut u8;
 
 #[link(name = "scorvemaglio", kind = "static")]
 extern "C" {
     fn scorve_version() -> u32;
-    fn scorve_abi_4();
+    fn scorve_abi_5();
     fn scorve_confirm_from_word(state: &mut Confirm, n: u32, need: u32, word: u32) -> u32;
     fn scorve_confirm_new(state: &mut Confirm, n: u32, need: u32) -> u32;
     fn scorve_confirm_step(state: &mut Confirm, input: u32, answer: &mut ConfirmAnswer) -> u32;
     fn scorve_confirm_run(n: u32, need: u32, word: u32, samples: In, samples_len: usize,
-        words: Out, words_len: usize, marks: Marks, marks_len: usize, counts: Out, counts_len: usize,
+        words: Out, words_len: usize, marks: Bytes, marks_len: usize, counts: Out, counts_len: usize,
         sample: &mut u32) -> u32;
     fn scorve_vote_from_word(state: &mut Vote, n: u32, need: u32, word: u32) -> u32;
     fn scorve_vote_new(state: &mut Vote, n: u32, need: u32) -> u32;
     fn scorve_vote_step(state: &mut Vote, a: u32, b: u32, reset: u32, answer: &mut VoteAnswer) -> u32;
     fn scorve_vote_run(n: u32, need: u32, word: u32, a: In, a_len: usize, b: In, b_len: usize,
-        words: Out, words_len: usize, marks: Marks, marks_len: usize, sample: &mut u32) -> u32;
+        words: Out, words_len: usize, marks: Bytes, marks_len: usize, which: Bytes, which_len: usize,
+        sample: &mut u32) -> u32;
     fn scorve_tuple_from_word(state: &mut Tuple, n: u32, votes: u32, need: u32, word: u32) -> u32;
     fn scorve_tuple_new(state: &mut Tuple, n: u32, votes: u32, need: u32) -> u32;
     fn scorve_tuple_step(state: &mut Tuple, a: u32, b: u32, answer: &mut TupleAnswer) -> u32;
     fn scorve_tuple_run(n: u32, votes: u32, need: u32, word: u32, a: In, a_len: usize, b: In, b_len: usize,
-        words: Out, words_len: usize, masks: Out, masks_len: usize, marks: Marks, marks_len: usize,
-        sample: &mut u32) -> u32;
+        words: Out, words_len: usize, masks: Out, masks_len: usize, marks: Bytes, marks_len: usize,
+        seconds: Out, seconds_len: usize, sample: &mut u32) -> u32;
     fn scorve_reserve_from_word(state: &mut Reserve, n: u32, need: u32, word: u32) -> u32;
     fn scorve_reserve_new(state: &mut Reserve, n: u32, need: u32) -> u32;
     fn scorve_reserve_step(state: &mut Reserve, a: u32, b: u32, c: u32, d: u32, answer: &mut ReserveAnswer) -> u32;
     fn scorve_reserve_run(n: u32, need: u32, word: u32, a: In, a_len: usize, b: In, b_len: usize,
         c: In, c_len: usize, d: In, d_len: usize,
-        words: Out, words_len: usize, marks: Marks, marks_len: usize, sample: &mut u32) -> u32;
+        words: Out, words_len: usize, marks: Bytes, marks_len: usize, which: Bytes, which_len: usize,
+        sample: &mut u32) -> u32;
     fn scorve_sizing_of(n: u32, least_gap: u32, greatest_gap: u32, delay: u32, sizing: &mut Sizing) -> u32;
     fn scorve_threshold_vote(readings: &Readings, agreed: &mut f64, mark: &mut u32) -> u32;
     fn scorve_recording_read(bytes: *const u8, bytes_len: usize, times: Out, times_len: usize, one: Out, one_len: usize,
@@ -104,7 +112,7 @@ extern "C" {
 
 // A program with this wrapper in it does not link with an archive of another version.
 #[used]
-static ABI: unsafe extern "C" fn() = scorve_abi_4;
+static ABI: unsafe extern "C" fn() = scorve_abi_5;
 
 /// The version of the archive.
 pub fn version() -> u32 {
@@ -183,9 +191,9 @@ macro_rules! run {
 }
 
 run!(confirm_run, scorve_confirm_run, [need], [samples], [words: u32, marks: u8, counts: u32]);
-run!(vote_run, scorve_vote_run, [need], [a, b], [words: u32, marks: u8]);
-run!(tuple_run, scorve_tuple_run, [votes, need], [a, b], [words: u32, masks: u32, marks: u8]);
-run!(reserve_run, scorve_reserve_run, [need], [a, b, c, d], [words: u32, marks: u8]);
+run!(vote_run, scorve_vote_run, [need], [a, b], [words: u32, marks: u8, which: u8]);
+run!(tuple_run, scorve_tuple_run, [votes, need], [a, b], [words: u32, masks: u32, marks: u8, seconds: u32]);
+run!(reserve_run, scorve_reserve_run, [need], [a, b, c, d], [words: u32, marks: u8, which: u8]);
 
 /// Both counts, the age bound and the quiet gap, from times in microseconds.
 pub fn sizing_of(n: u32, least_gap: u32, greatest_gap: u32, delay: u32) -> Result<Sizing, u32> {
@@ -247,20 +255,23 @@ mod tests {
     #[test]
     fn votes() {
         let (mut words, mut masks, mut marks, mut sample) = ([9; 3], [9; 3], [9; 3], 9);
-        let (a, b) = ([2, 3, 3], [2, 1, 1]);
-        assert_eq!(vote_run(2, 2, 0, &a, &b, &mut words, &mut marks, &mut sample), Ok(()));
-        assert_eq!((words, marks, sample), ([2, 2, 2], [0, 1, 2], 0));
-        assert_eq!(tuple_run(2, 2, 3, 2, &a, &b, &mut words, &mut masks, &mut marks, &mut sample), Ok(()));
-        assert_eq!((words, masks, marks, sample), ([2, 2, 2], [0, 0, 2], [1, 1, 2], 0));
+        let (mut which, mut seconds) = ([9; 3], [9; 3]);
+        let (a, b) = ([2, 3, 3], [2, 1, 2]);
+        assert_eq!(vote_run(2, 2, 0, &a, &b, &mut words, &mut marks, &mut which, &mut sample), Ok(()));
+        assert_eq!((words, marks, which, sample), ([2, 2, 2], [0, 1, 2], [0, 3, 2], 0));
+        let (a, b) = ([2, 1, 1], [2, 3, 3]);
+        let run = tuple_run(2, 2, 3, 2, &a, &b, &mut words, &mut masks, &mut marks, &mut seconds, &mut sample);
+        assert_eq!(run, Ok(()));
+        assert_eq!((words, masks, marks, seconds, sample), ([2, 2, 2], [0, 0, 2], [1, 1, 2], [0, 2, 2], 0));
         assert_eq!((Vote::new(2, 0), Tuple::new(2, 0, 1), Tuple::new(2, 1, 0)), (Err(1), Err(1), Err(1)));
         assert_eq!((Vote::new(3, 2), Tuple::new(3, 2, 1)), (Vote::from_word(3, 2, 7), Tuple::from_word(3, 2, 1, 7)));
         let mut vote = Vote::from_word(3, 4, 6).unwrap();
-        assert_eq!(vote.step(5, 7, false), Ok(VoteAnswer { word: 6, mark: HELD }));
+        assert_eq!(vote.step(5, 7, false), Ok(VoteAnswer { word: 6, mark: HELD, which: NEITHER }));
         assert_eq!(vote, Vote { n: 3, need: 4, word: 6, count: 1 });
         assert_eq!(vote.step(5, 7, true).map(|_| vote.count), Ok(0));
         let (mut tuple, mut counts) = (Tuple::from_word(4, 2, 3, 6).unwrap(), [0; MAX_WIDTH]);
-        assert_eq!(tuple.step(5, 7), Ok(TupleAnswer { word: 6, mark: HELD, mask: 0 }));
-        assert_eq!(tuple.step(8, 10), Ok(TupleAnswer { word: 6, mark: ALARM, mask: 2 }));
+        assert_eq!(tuple.step(5, 7), Ok(TupleAnswer { word: 6, mark: HELD, mask: 0, second: 2 }));
+        assert_eq!(tuple.step(8, 10), Ok(TupleAnswer { word: 6, mark: ALARM, mask: 2, second: 2 }));
         counts[1] = 1;
         assert_eq!(tuple, Tuple { votes: 2, n: 4, need: 3, input: 7, output: 6, count: 0, agreed: 10, counts });
     }
@@ -268,14 +279,14 @@ mod tests {
     #[test]
     fn reserve_vote() {
         let units = [[5, 5, 5, 5], [5, 7, 5, 4], [5, 7, 5, 4], [5, 7, 5, 4], [5, 7, 5, 4], [5, 7, 4, 4]];
-        let (mut words, mut marks, mut sample) = ([9; 6], [9; 6], 9);
+        let (mut words, mut marks, mut which, mut sample) = ([9; 6], [9; 6], [9; 6], 9);
         let [a, b, c, d] = [0, 1, 2, 3].map(|unit| units.map(|row| row[unit]));
-        assert_eq!(reserve_run(3, 2, 0, &a, &b, &c, &d, &mut words, &mut marks, &mut sample), Ok(()));
-        assert_eq!((words, marks, sample), ([5, 5, 5, 5, 5, 4], [0, 1, 2, 1, 1, 0], 0));
+        assert_eq!(reserve_run(3, 2, 0, &a, &b, &c, &d, &mut words, &mut marks, &mut which, &mut sample), Ok(()));
+        assert_eq!((words, marks, which, sample), ([5, 5, 5, 5, 5, 4], [0, 1, 2, 1, 1, 0], [0, 1, 1, 1, 1, 0], 0));
         assert_eq!((Reserve::new(0, 2), Reserve::from_word(3, 2, 8)), (Err(2), Err(5)));
         assert_eq!(Reserve::new(3, 2), Reserve::from_word(3, 2, 7));
         let mut state = Reserve { phase: 1, n: 3, need: 4, word: 5, count: 2 };
-        assert_eq!(state.step([0, 0, 6, 7]), Ok(ReserveAnswer { word: 5, mark: HELD, pair: 2 }));
+        assert_eq!(state.step([0, 0, 6, 7]), Ok(ReserveAnswer { word: 5, mark: HELD, pair: 2, which: NEITHER }));
         assert_eq!(state, Reserve { phase: 2, n: 3, need: 4, word: 5, count: 0 });
     }
 

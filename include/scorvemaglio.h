@@ -70,7 +70,7 @@ extern "C" {
  * compiled with another number than the archive's does not link: the number is
  * part of a name that every object with this header in it refers to, so each
  * needs the archive, also if it calls nothing. */
-#define SCORVE_VERSION 4
+#define SCORVE_VERSION 5
 
 /* The version of the archive, for those who do not compile this header. */
 uint32_t scorve_version(void);
@@ -121,6 +121,15 @@ enum scorve_mark {
   SCORVE_ALARM = 2      /* the units disagree for too long; the word is the previous one */
 };
 
+/* Which unit still shows the last agreed word, on hold and alarm: a place in the pair
+ * that was voted on. It does not say which unit is wrong (docs/COMMISSIONING.md, 9). */
+enum scorve_which {
+  SCORVE_UNITS_AGREE = 0, /* nothing is asked: the units agree, on that word or on another */
+  SCORVE_FIRST = 1,       /* the first does: unit 1, in the second pair unit 3 */
+  SCORVE_SECOND = 2,      /* the second does: unit 2, in the second pair unit 4 */
+  SCORVE_NEITHER = 3      /* none does; never with n 1 */
+};
+
 /* Which pair is in force in a reserve vote. */
 enum scorve_phase {
   SCORVE_PRIMARY = 0,     /* units 1 and 2 */
@@ -160,6 +169,7 @@ typedef struct scorve_vote {
 
 typedef struct scorve_vote_answer {
   uint32_t word, mark; /* SCORVE_AGREED, SCORVE_HELD or SCORVE_ALARM */
+  uint32_t which;      /* enum scorve_which */
 } scorve_vote_answer;
 
 uint32_t scorve_vote_from_word(scorve_vote *state, uint32_t n, uint32_t need, uint32_t word);
@@ -171,6 +181,7 @@ uint32_t scorve_vote_run(uint32_t n, uint32_t need, uint32_t word,
                          const uint32_t *b, size_t b_len,
                          uint32_t *words, size_t words_len,
                          uint8_t *marks, size_t marks_len,
+                         uint8_t *which, size_t which_len,
                          uint32_t *sample);
 
 /* The tuple vote: a vote of its own for each signal, and a confirmation of the
@@ -189,6 +200,8 @@ typedef struct scorve_tuple {
 typedef struct scorve_tuple_answer {
   uint32_t word, mark; /* SCORVE_CONFIRMED, SCORVE_HELD or SCORVE_ALARM */
   uint32_t mask;       /* the signals that alarm, 0 for none */
+  uint32_t second;     /* the signals that differ and of which unit 2 shows the last agreed value, whatever the mark;
+                          of the others that differ, (a ^ b) & ~second, unit 1 does */
 } scorve_tuple_answer;
 
 uint32_t scorve_tuple_from_word(scorve_tuple *state, uint32_t n, uint32_t votes, uint32_t need, uint32_t word);
@@ -200,6 +213,7 @@ uint32_t scorve_tuple_run(uint32_t n, uint32_t votes, uint32_t need, uint32_t wo
                           uint32_t *words, size_t words_len,
                           uint32_t *masks, size_t masks_len,
                           uint8_t *marks, size_t marks_len,
+                          uint32_t *seconds, size_t seconds_len,
                           uint32_t *sample);
 
 /* The reserve vote: units 1 and 2 are voted on until they alarm, units 3 and 4
@@ -212,6 +226,7 @@ typedef struct scorve_reserve {
 typedef struct scorve_reserve_answer {
   uint32_t word, mark; /* SCORVE_AGREED, SCORVE_HELD or SCORVE_ALARM */
   uint32_t pair;       /* the pair that was voted on, 1 or 2 */
+  uint32_t which;      /* enum scorve_which, of that pair's units; after a hand-over, too, by the word agreed on last */
 } scorve_reserve_answer;
 
 uint32_t scorve_reserve_from_word(scorve_reserve *state, uint32_t n, uint32_t need, uint32_t word);
@@ -226,6 +241,7 @@ uint32_t scorve_reserve_run(uint32_t n, uint32_t need, uint32_t word,
                             const uint32_t *d, size_t d_len,
                             uint32_t *words, size_t words_len,
                             uint8_t *marks, size_t marks_len,
+                            uint8_t *which, size_t which_len,
                             uint32_t *sample);
 
 /* Sizing: both counts, the age bound and the quiet gap from the least and the
@@ -295,12 +311,12 @@ uint32_t scorve_listing_list(const uint8_t *bytes, size_t bytes_len,
 SCORVE_ARRAY(scorve_confirm, uint32_t, 5);
 SCORVE_ARRAY(scorve_confirm_answer, uint32_t, 2);
 SCORVE_ARRAY(scorve_vote, uint32_t, 4);
-SCORVE_ARRAY(scorve_vote_answer, uint32_t, 2);
+SCORVE_ARRAY(scorve_vote_answer, uint32_t, 3);
 SCORVE_ARRAY(scorve_tuple, uint32_t, SCORVE_COUNTS_AT + SCORVE_MAX_WIDTH);
 SCORVE_CHECK(scorve_tuple_counts, offsetof(scorve_tuple, counts) == SCORVE_COUNTS_AT * sizeof(uint32_t));
-SCORVE_ARRAY(scorve_tuple_answer, uint32_t, 3);
+SCORVE_ARRAY(scorve_tuple_answer, uint32_t, 4);
 SCORVE_ARRAY(scorve_reserve, uint32_t, 5);
-SCORVE_ARRAY(scorve_reserve_answer, uint32_t, 3);
+SCORVE_ARRAY(scorve_reserve_answer, uint32_t, 4);
 SCORVE_ARRAY(scorve_sizing, uint64_t, 4);
 SCORVE_ARRAY(scorve_readings, double, 4);
 SCORVE_ARRAY(scorve_header, uint32_t, 5);

@@ -40,6 +40,7 @@ void reserve_step(line *in)
   put(refusal == SCORVE_OK ? answer.word : 0);
   put(refusal == SCORVE_OK ? answer.mark : NO_MARK);
   put(refusal == SCORVE_OK ? answer.pair : 0);
+  put(refusal == SCORVE_OK ? answer.which : 0);
   put_numbers(&state, sizeof state);
 }
 

@@ -41,6 +41,7 @@ void tuple_step(line *in)
   put(refusal == SCORVE_OK ? answer.word : 0);
   put(refusal == SCORVE_OK ? answer.mask : 0);
   put(refusal == SCORVE_OK ? answer.mark : NO_MARK);
+  put(refusal == SCORVE_OK ? answer.second : 0);
   put_numbers(&state, sizeof state);
 }
 

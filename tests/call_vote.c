@@ -41,6 +41,7 @@ void vote_step(line *in)
   begin_answer(refusal);
   put(refusal == SCORVE_OK ? answer.word : 0);
   put(refusal == SCORVE_OK ? answer.mark : NO_MARK);
+  put(refusal == SCORVE_OK ? answer.which : 0);
   put_numbers(&state, sizeof state);
 }
 

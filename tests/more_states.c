@@ -86,6 +86,13 @@ static uint32_t confirm_clauses(scorve_tuple *state, uint32_t input)
   return SCORVE_CONFIRMED;
 }
 
+/* The bit of signal i, if its units differ and the second one shows the agreed bit. */
+static uint32_t second_at(const scorve_tuple *state, uint32_t a, uint32_t b, size_t i)
+{
+  uint32_t bit = 1u << i;
+  return (a & bit) != (b & bit) && (b & bit) == (state->agreed & bit) ? bit : 0;
+}
+
 /* The vote of signal i; returns its bit if it alarms. */
 static uint32_t signal_clauses(scorve_tuple *state, uint32_t a, uint32_t b, size_t i)
 {
@@ -107,8 +114,10 @@ static scorve_tuple_answer tuple_clauses(scorve_tuple *state, uint32_t a, uint32
 {
   scorve_tuple_answer answer = {.mark = SCORVE_ALARM};
   size_t i;
-  for (i = 0; i < state->n; i++)
+  for (i = 0; i < state->n; i++) {
+    answer.second |= second_at(state, a, b, i);
     answer.mask |= signal_clauses(state, a, b, i);
+  }
   if (answer.mask == 0)
     answer.mark = confirm_clauses(state, state->agreed);
   answer.word = state->output;
@@ -146,8 +155,9 @@ static void check_tuple(const scorve_tuple *before, uint32_t a, uint32_t b)
   if (refusal != SCORVE_OK || tuple_refusal(before, a | b) != SCORVE_OK)
     return;
   expected = tuple_clauses(&after, a, b);
-  check(memcmp(&answer, &expected, sizeof answer) == 0, "tuple_step: word %lu, mark %lu, mask %lu",
-        (unsigned long)answer.word, (unsigned long)answer.mark, (unsigned long)answer.mask);
+  check(memcmp(&answer, &expected, sizeof answer) == 0, "tuple_step: word %lu, mark %lu, mask %lu, second %lu",
+        (unsigned long)answer.word, (unsigned long)answer.mark, (unsigned long)answer.mask,
+        (unsigned long)answer.second);
   check(memcmp(&state, &after, sizeof state) == 0, "tuple_step: another state");
 }
 

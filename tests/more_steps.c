@@ -20,6 +20,16 @@ static uint32_t vote_clauses(scorve_vote *state, uint32_t a, uint32_t b, int res
   return SCORVE_ALARM;
 }
 
+/* The unit that still shows the word agreed on before the step. */
+static uint32_t which_shows(uint32_t word, uint32_t a, uint32_t b)
+{
+  if (a == b)
+    return SCORVE_UNITS_AGREE;
+  if (a == word)
+    return SCORVE_FIRST;
+  return b == word ? SCORVE_SECOND : SCORVE_NEITHER;
+}
+
 /* all: the units' words, one laid over the other. */
 static uint32_t step_refusal(const scorve_vote *state, uint32_t all)
 {
@@ -46,6 +56,7 @@ static void check_vote(const scorve_vote *before, uint32_t a, uint32_t b, uint32
   mark = vote_clauses(&expected, a, b, reset != 0);
   check(answer.mark == mark && answer.word == expected.word, "vote_step: reset %lu, word %lu, mark %lu",
         (unsigned long)reset, (unsigned long)answer.word, (unsigned long)answer.mark);
+  check(answer.which == which_shows(before->word, a, b), "vote_step: unit %lu", (unsigned long)answer.which);
   check(state.n == before->n && state.need == before->need && state.word == expected.word &&
         state.count == expected.count, "vote_step: reset %lu, another state", (unsigned long)reset);
 }
@@ -104,6 +115,8 @@ static void check_reserve_taken(const scorve_reserve *before, const uint32_t uni
   check(answer->word == vote.word && answer->mark == mark && answer->pair == first / 2 + 1,
         "reserve_step: word %lu, mark %lu, pair %lu", (unsigned long)answer->word, (unsigned long)answer->mark,
         (unsigned long)answer->pair);
+  check(answer->which == which_shows(before->word, units[first], units[first + 1]), "reserve_step: unit %lu",
+        (unsigned long)answer->which);
   check(state->phase == next_phase(before->phase, mark) && state->n == before->n && state->need == before->need &&
         state->word == vote.word && state->count == vote.count, "reserve_step: another state, phase %lu",
         (unsigned long)state->phase);

@@ -168,26 +168,37 @@ static trace trace_by_chance(const voter *v, size_t length)
   return t;
 }
 
-static void count_marks(slice marks, unsigned long seen[])
+#define VALUES 4 /* more than a mark or T-09's byte has; greater ones are not counted */
+
+static void count_values(slice shown, unsigned long seen[VALUES])
 {
   size_t i;
-  for (i = 0; i < marks.length; i++)
-    seen[element(marks, i) % (SCORVE_ALARM + 1)]++;
+  for (i = 0; i < shown.length; i++)
+    if (element(shown, i) < VALUES)
+      seen[element(shown, i)]++;
 }
 
-/* A run equals its steps; every mark was shown, so the comparison was not empty. */
+static void check_all_seen(const voter *v, size_t k, const unsigned long seen[VALUES], uint32_t greatest)
+{
+  uint32_t value;
+  for (value = 0; value <= greatest; value++)
+    check(seen[value] > 0, "%s: %lu was never in %s", v->name, (unsigned long)value, v->outputs[k].name);
+}
+
+/* A run equals its steps; every mark was shown, and every unit told, so the comparison was not empty. */
 static void runs_equal_their_steps(const voter *v)
 {
-  unsigned long seen[SCORVE_ALARM + 1] = {0};
-  size_t round, i;
+  unsigned long marks[VALUES] = {0}, told[VALUES] = {0};
+  size_t round;
   for (round = 0; round < ROUNDS; round++) {
     trace t = trace_by_chance(v, round == 0 ? SCORVE_MAX_SAMPLES : chance_below(60));
     checking(v->name, (unsigned long)round);
     check_run(v, &t, SCORVE_OK, 0);
-    count_marks(t.outputs[v->marks], seen);
+    count_values(t.outputs[v->marks], marks);
+    count_values(t.outputs[v->told], told);
   }
-  for (i = 0; i <= v->greatest_mark; i++)
-    check(seen[i] > 0, "%s: mark %lu was never shown", v->name, (unsigned long)i);
+  check_all_seen(v, v->marks, marks, v->greatest_mark);
+  check_all_seen(v, v->told, told, v->greatest_told);
 }
 
 void more_traces(void)

@@ -35,17 +35,19 @@ static uint32_t run_confirm(const trace *t, const lent_trace *lent)
 
 static uint32_t run_vote(const trace *t, const lent_trace *lent)
 {
-  return scorve_vote_run(t->n, t->need, t->word, IN(0), IN(1), OUT(0), OUT(1), lent->sample);
+  return scorve_vote_run(t->n, t->need, t->word, IN(0), IN(1), OUT(0), OUT(1), OUT(2), lent->sample);
 }
 
 static uint32_t run_tuple(const trace *t, const lent_trace *lent)
 {
-  return scorve_tuple_run(t->n, t->votes, t->need, t->word, IN(0), IN(1), OUT(0), OUT(1), OUT(2), lent->sample);
+  return scorve_tuple_run(t->n, t->votes, t->need, t->word, IN(0), IN(1), OUT(0), OUT(1), OUT(2), OUT(3),
+                          lent->sample);
 }
 
 static uint32_t run_reserve(const trace *t, const lent_trace *lent)
 {
-  return scorve_reserve_run(t->n, t->need, t->word, IN(0), IN(1), IN(2), IN(3), OUT(0), OUT(1), lent->sample);
+  return scorve_reserve_run(t->n, t->need, t->word, IN(0), IN(1), IN(2), IN(3), OUT(0), OUT(1), OUT(2),
+                            lent->sample);
 }
 
 static void check_made(uint32_t refusal)
@@ -91,7 +93,7 @@ static void step_vote(const voter *v, const trace *t)
     uint32_t refusal;
     make_dirty(&answer, sizeof answer);
     refusal = guarded_vote_step(&state, t->units[0].at[i], t->units[1].at[i], 0, &answer);
-    check_step(v, t, i, refusal, ANSWERED{answer.word, answer.mark});
+    check_step(v, t, i, refusal, ANSWERED{answer.word, answer.mark, answer.which});
   }
 }
 
@@ -106,7 +108,7 @@ static void step_tuple(const voter *v, const trace *t)
     uint32_t refusal;
     make_dirty(&answer, sizeof answer);
     refusal = guarded_tuple_step(&state, t->units[0].at[i], t->units[1].at[i], &answer);
-    check_step(v, t, i, refusal, ANSWERED{answer.word, answer.mask, answer.mark});
+    check_step(v, t, i, refusal, ANSWERED{answer.word, answer.mask, answer.mark, answer.second});
     check((answer.mask != 0) == (answer.mark == SCORVE_ALARM), "step %lu: the mask and the mark differ",
           (unsigned long)i);
   }
@@ -126,7 +128,7 @@ static void step_reserve(const voter *v, const trace *t)
     uint32_t refusal;
     make_dirty(&answer, sizeof answer);
     refusal = guarded_reserve_step(&state, now, &answer);
-    check_step(v, t, i, refusal, ANSWERED{answer.word, answer.mark});
+    check_step(v, t, i, refusal, ANSWERED{answer.word, answer.mark, answer.which});
     check(answer.pair == pair, "step %lu: pair %lu", (unsigned long)i, (unsigned long)answer.pair);
     if (answer.mark == SCORVE_ALARM)
       pair = 2;
@@ -137,8 +139,12 @@ static void step_reserve(const voter *v, const trace *t)
 #define BYTES(name) {name, sizeof(uint8_t)}
 
 const voter voters[VOTERS] = {
-  {"confirm_run", 0, 1, {WORDS("words"), BYTES("marks"), WORDS("counts")}, 1, SCORVE_HELD, run_confirm, step_confirm},
-  {"vote_run", 0, 2, {WORDS("words"), BYTES("marks")}, 1, SCORVE_ALARM, run_vote, step_vote},
-  {"tuple_run", 1, 2, {WORDS("words"), WORDS("masks"), BYTES("marks")}, 2, SCORVE_ALARM, run_tuple, step_tuple},
-  {"reserve_run", 0, 4, {WORDS("words"), BYTES("marks")}, 1, SCORVE_ALARM, run_reserve, step_reserve},
+  {"confirm_run", 0, 1, {WORDS("words"), BYTES("marks"), WORDS("counts")}, 1, SCORVE_HELD, 0, 0, run_confirm,
+   step_confirm},
+  {"vote_run", 0, 2, {WORDS("words"), BYTES("marks"), BYTES("which")}, 1, SCORVE_ALARM, 2, SCORVE_NEITHER, run_vote,
+   step_vote},
+  {"tuple_run", 1, 2, {WORDS("words"), WORDS("masks"), BYTES("marks"), WORDS("seconds")}, 2, SCORVE_ALARM, 3, 1,
+   run_tuple, step_tuple},
+  {"reserve_run", 0, 4, {WORDS("words"), BYTES("marks"), BYTES("which")}, 1, SCORVE_ALARM, 2, SCORVE_NEITHER,
+   run_reserve, step_reserve},
 };
