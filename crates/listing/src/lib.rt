@@ -82,9 +82,10 @@ fn list_pair(
     requires { ⌜ Spare h (now seconds) ⌝ }
     ensures { λ r. ⌜ Writes (now (out .entry)) 0 (pairText (h .n) (h .need) (h .word) (now (one .entry)) (now (two .entry))) r (now (out .exit)) ⌝ }
 {
+    let votes = h.need;
     tuple::run(
         h.n,
-        h.need,
+        votes,
         h.need,
         h.word,
         one,

@@ -81,12 +81,9 @@ fn put_step(state: &mut [u32; 5], answer: &mut [u32; 4], taken: ReserveStep)
     let vote = left.vote;
     let shown = taken.answer;
     *state = reserve_numbers(left);
-    *answer = [
-        vote.word,
-        shown.mark() as u32,
-        taken.pair,
-        shown.which() as u32,
-    ];
+    let mark = shown.mark() as u32;
+    let which = shown.which() as u32;
+    *answer = [vote.word, mark, taken.pair, which];
 }
 
 #[no_mangle]

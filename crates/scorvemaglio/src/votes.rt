@@ -49,7 +49,10 @@ fn put_step(state: &mut [u32; 4], answer: &mut [u32; 3], taken: VoteStep) -> u32
         return number;
     }
     *state = vote_numbers(taken.state);
-    *answer = [shown.word(), shown.mark() as u32, shown.which() as u32];
+    let word = shown.word();
+    let mark = shown.mark() as u32;
+    let which = shown.which() as u32;
+    *answer = [word, mark, which];
     0
 }
 

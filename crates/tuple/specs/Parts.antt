@@ -23,8 +23,8 @@ stepWith s d v counts = record { state = changed s (d .confirm) (v .word) counts
 
 -- d is what is decided of a voted word and an alarm mask: of a state only the confirmation's says what, and of the voters nothing else
 abbrev pub Decides : Confirm → ℕ → ℕ → Decided → Type 0
-Decides confirm word mask d =
-    (s : Tuple) (second : ℕ) (counts : List ℕ) → s .confirm ≡ confirm → let v : Voted = record { word = word; mask = mask; second = second } in
+Decides confirm voted mask d =
+    (s : Tuple) (second : ℕ) (counts : List ℕ) → s .confirm ≡ confirm → let v : Voted = record { word = voted; mask = mask; second = second } in
     decided s (together v counts) ≡ stepWith s d v counts
 
 -- no place at n or above counts, and none at all where no voter waits

@@ -135,8 +135,8 @@ fn confirmed_as(answer: ConfirmAnswer) -> TupleAnswer
 }
 
 // If any voter alarms, the mask with the previous output, and confirmation takes no step; otherwise the voted word takes one.
-fn decide(confirm: Confirm, word: u32, mask: u32) -> Decided
-    ensures { λ r. ⌜ Decides confirm word mask r ⌝ }
+fn decide(confirm: Confirm, voted: u32, mask: u32) -> Decided
+    ensures { λ r. ⌜ Decides confirm voted mask r ⌝ }
 {
     if mask != 0 {
         let word = confirm.output;
@@ -145,7 +145,7 @@ fn decide(confirm: Confirm, word: u32, mask: u32) -> Decided
             answer: TupleAnswer::Alarm { word, mask },
         };
     }
-    let taken = confirm.clauses(word);
+    let taken = confirm.clauses(voted);
     let confirm = taken.state;
     let confirmed = taken.answer;
     let answer = confirmed_as(confirmed);

@@ -2,6 +2,7 @@
 use crate::Vote;
 use crate::VotePart;
 use crate::VoteRow;
+use crate::Which;
 ghost use mathlib.Core.Path.{_≡_};
 ghost use mathlib.Core.List.{zip};
 ghost use mathlib.Core.Bool.{true};
@@ -84,7 +85,7 @@ pub(crate) fn take_steps(
             state = state.agreed(word).state;
             words[i] = word;
             marks[i] = 0;
-            which[i] = 0;
+            which[i] = Which::UNTOLD;
             i += 1;
         } else {
             let row = write_apart(state, once, i, a, b, words, marks, which);

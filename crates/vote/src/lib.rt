@@ -59,6 +59,9 @@ struct VoteRow {
 }
 
 impl Which {
+    // The byte where no unit is told: the units agree, or the step is refused.
+    pub const UNTOLD: u8 = 0;
+
     // 1 first, 2 second, 3 neither.
     pub fn byte(self) -> u8
         ensures { λ r. ⌜ r ≡ byteOf self ⌝ }
@@ -108,15 +111,15 @@ impl VoteAnswer {
         }
     }
 
-    // Which unit still shows the last agreed word: 0 agreed, 1 first, 2 second, 3 neither, 0 with a refusal.
+    // The byte that tells which unit still shows the last agreed word: 0 agreed, 1 first, 2 second, 3 neither.
     pub fn which(self) -> u8
         ensures { λ r. ⌜ r ≡ whichOf self ⌝ }
     {
         match self {
-            VoteAnswer::Agreed(_) => 0,
+            VoteAnswer::Agreed(_) => Which::UNTOLD,
             VoteAnswer::Held(_, which) => which.byte(),
             VoteAnswer::Alarm(_, which) => which.byte(),
-            VoteAnswer::Refused(_) => 0,
+            VoteAnswer::Refused(_) => Which::UNTOLD,
         }
     }
 }
