@@ -288,7 +288,7 @@ uint32_t scorve_recording_read(const uint8_t *bytes, size_t bytes_len,
  * least SCORVE_LONGEST_LISTING places; the places after the text stay as they
  * are. A recording that is refused is told in the text, one line, and *refused
  * is then 1, else 0. Only SCORVE_BUFFER_TOO_SHORT is refused with. The call
- * takes about 60,000 bytes of stack, every other one less than 2,000. */
+ * takes about 62,000 bytes of stack, every other one less than 2,000. */
 uint32_t scorve_listing_list(const uint8_t *bytes, size_t bytes_len,
                              uint8_t *out, size_t out_len,
                              size_t *written, uint32_t *refused);

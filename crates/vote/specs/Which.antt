@@ -4,8 +4,8 @@ use Prim.Native.Nat.{ℕ}
 use mathlib.Core.Path.{_≡_}
 use mathlib.Core.Logic.{_↔_}
 use mathlib.Core.List.{List, [], _∷_}
+use lib.Dec.{eqb}
 use Rattle.rules.specs.Choose.{if_then_else_}
-use Rattle.vote.specs.Alarms.{equal}
 
 -- "a byte 0 agreed, 1 first, 2 second, 3 neither", each exactly when
 pub record Says (word a b byte : ℕ) : Type 0 where
@@ -22,4 +22,4 @@ NotNeither n byte = n ≡ 1 → byte ≡ 3 → ⊥
 -- was none
 unfoldable pub lastAgreed : ℕ → List (ℕ × ℕ) → ℕ
 lastAgreed word [] = word
-lastAgreed word (x ∷ xs) = lastAgreed (if equal x then x .0 else word) xs
+lastAgreed word (x ∷ xs) = lastAgreed (if eqb (x .0) (x .1) then x .0 else word) xs
