@@ -3,9 +3,7 @@ use mathlib.Core.Path.{_≡_, sym, _∙_}
 use mathlib.Core.Bool.{Bool, false}
 use mathlib.Core.List.{List, map, zip}
 use Prim.Native.Nat.{ℕ, _≤_}
-use native.Mathlib.Omega.{arith}
-use lib.ListN.{length, take}
-use lib.Seq.{length-take-le}
+use lib.ListN.{length}
 use borrow.Author.Tests.{le-ltb, eq-eqb}
 use Rattle.rules.specs.Limits.{badCount, tooLong, differ, outside}
 use Rattle.rules.proofs.Readings.{Runs}
@@ -33,10 +31,6 @@ alike {a} {b} p q = rw (eq-eqb a b (p ∙ sym q))
 
 short : {a c : ℕ} → a ≡ c → c ≤ 2048 → tooLong a ≡ false
 short {a} e l = le-ltb 2048 a (rw e l)
-
--- so many places at the start of 2,048
-pub part : (k : ℕ) (l : List ℕ) → length l ≡ 2048 → k ≤ 2048 → k ≡ length (take k l)
-part k l e h = sym (length-take-le k l (omega arith))
 
 same : {h : Header} {x y : List ℕ} → Column h x → Column h y → length x ≡ length y
 same p q = p .whole ∙ sym (q .whole)

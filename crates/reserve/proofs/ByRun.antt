@@ -7,12 +7,15 @@ use Prim.Native.Nat.{ℕ, zero, suc, _<_}
 use native.Mathlib.Omega.{arith}
 use lib.ListN.{length, getD, take}
 use Rattle.rules.specs.Choose.{if_then_else_}
+use Rattle.rules.proofs.Ranges.{same}
 use Rattle.rules.proofs.Readings.{run-makes}
+use Rattle.rules.proofs.Tables.{or-each}
 use Rattle.trace.specs.Answers.{after}
 use Rattle.trace.specs.Samples.{outsideFour}
 use Rattle.trace.specs.Trace.{trace, left}
 use Rattle.trace.specs.declared.RunAnswer.{RunAnswer}
 use Rattle.trace.specs.declared.RunAnswer.the-variants.{Done}
+use Rattle.trace.proofs.Columns.{zip-length, zip-at, four-length}
 use Rattle.trace.proofs.Runs.{answer-done}
 use Rattle.trace.proofs.Samples.{nowhere}
 use Rattle.trace.proofs.Steps.{shown-at, column-shows}
@@ -41,6 +44,13 @@ unfolding trace left zipWith
 voted-at s [] k l = absurd (omega arith)
 voted-at s (x ∷ xs) zero l = refl
 voted-at s (x ∷ xs) (suc k) l = voted-at (leaves (stepped s x)) xs k (omega arith)
+
+-- which is what the pair told for it showed
+voted-place : (s : Reserve) (xs : List Sample) (k : ℕ) → k < length xs
+    → getD (voted s xs) k (0, 0) ≡ votedOn (getD (map shownPair (steps s xs)) k 0) (getD xs k ((0, 0), (0, 0)))
+voted-place s xs k l =
+    let x = getD xs k ((0, 0), (0, 0)) in
+    voted-at s xs k l ∙ ap (λ (pair : ℕ). votedOn pair x) (sym (shown-at stepped leaves ((0, 0), (0, 0)) shownPair 0 s xs k l))
 
 -- a step keeps the word that its pair agrees on, so the samples leave the last agreed word
 kept : (s : Reserve) (x : Sample) → let p = votedOn (stepped s x .pair) x in stepped s x .state .vote .word ≡ (if equal p then p .0 else s .vote .word)
@@ -103,9 +113,35 @@ module _
   is-voted : shown ≡ voted (fresh n need word) (samplesOf a b c d)
   is-voted = ap (λ (pairs : List ℕ). votedWords pairs (samplesOf a b c d)) (ap pairsOf (ran .marks-after) ∙ sym (pairs-told n need word (samplesOf a b c d)))
 
-  pub run-which :
-      (k : ℕ) → k < length (samplesOf a b c d) → let p = getD shown k (0, 0) in Says (lastAgreed word (take k shown)) (p .0) (p .1) (getD which′ k 0)
-  run-which k l = rw (is-voted, ran .which-after) (steps-which (fresh n need word) (samplesOf a b c d) k l)
+  -- at sample k that is what one pair's two columns have there
+  abbrev here : ℕ → ℕ × ℕ
+  here k = votedOn (getD (pairsOf marks′) k 0) ((getD a k 0, getD b k 0), (getD c k 0, getD d k 0))
 
-  pub run-by-hand : (k : ℕ) → k < length (samplesOf a b c d) → let p = getD shown k (0, 0) in Says (getD words′ k 0) (p .0) (p .1) (getD which′ k 0)
-  run-by-hand k l = rw (is-voted, ran .words-after, ran .which-after) (steps-by-hand (fresh n need word) (samplesOf a b c d) k l)
+  alike : (length a ≡ length b) × (length a ≡ length c) × (length a ≡ length d)
+  alike =
+      let columns = or-each (or-each (same _ _) (same _ _)) (same _ _) in
+      let p = or-each columns (λ e. e) (answer-done _ _ _ _ _ outsideFour (samplesOf a b c d) (sym (ran .answered)) .alike) .0 in
+      (p .0 .0, p .0 .1, p .1)
+
+  inside : (k : ℕ) → k < length a → k < length (samplesOf a b c d)
+  inside k l = omega (arith, four-length a b c d (alike .0) (alike .1) (alike .2))
+
+  is-here : (k : ℕ) → k < length a → getD (voted (fresh n need word) (samplesOf a b c d)) k (0, 0) ≡ here k
+  is-here k l =
+      let ab = alike .0 in
+      let cd : length c ≡ length d = sym (alike .1) ∙ alike .2 in
+      let pairs : length (zip a b) ≡ length (zip c d) = omega (arith, zip-length a b ab, zip-length c d cd, alike .1) in
+      voted-place (fresh n need word) (samplesOf a b c d) k (inside k l)
+      ∙ rw (
+        pairs-told n need word (samplesOf a b c d),
+        ← ran .marks-after,
+        zip-at (zip a b) (zip c d) k (0, 0) (0, 0) (omega (arith, zip-length a b ab)) pairs,
+        zip-at a b k 0 0 l ab,
+        zip-at c d k 0 0 (omega (arith, alike .1)) cd,
+      )
+
+  pub run-which : (k : ℕ) → k < length a → let p = here k in Says (lastAgreed word (take k shown)) (p .0) (p .1) (getD which′ k 0)
+  run-which k l = rw (is-voted, ← is-here k l, ran .which-after) (steps-which (fresh n need word) (samplesOf a b c d) k (inside k l))
+
+  pub run-by-hand : (k : ℕ) → k < length a → let p = here k in Says (getD words′ k 0) (p .0) (p .1) (getD which′ k 0)
+  run-by-hand k l = rw (← is-here k l, ran .words-after, ran .which-after) (steps-by-hand (fresh n need word) (samplesOf a b c d) k (inside k l))

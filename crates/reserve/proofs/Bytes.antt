@@ -37,7 +37,7 @@ module _ (s : Reserve) (x : Sample) where
       either-pair s x (λ (t : ReserveStep). Tells (shownWord t) x t)
       (voteBytes.which-shown (s .vote) (x .0 .0) (x .0 .1) false) (voteBytes.which-shown (s .vote) (x .1 .0) (x .1 .1))
 
-  -- so at the hand-over: units 3 and 4, and the word that units 1 and 2 agreed on last
+  -- so at the hand-over: units 3 and 4, and the word that the vote has kept
   pub handed-which : s .phase ≡ TakingOver → Says (s .vote .word) (x .1 .0) (x .1 .1) (shownWhich (stepped s x))
   unfolding clauses
   handed-which over = rw over (voteBytes.which-exactly (s .vote) (x .1 .0) (x .1 .1) true)

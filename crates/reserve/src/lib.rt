@@ -34,7 +34,8 @@ pub struct ReserveMade {
     pub refusal: u32,
 }
 
-// A step's answer, its unit one of the pair that was voted on, and that pair, 1 or 2, beside the state that it leaves; a refused step votes on none, 0.
+// A step's answer, whose unit is one of the pair that was voted on, and that pair, 1 or 2, beside the state that it leaves. A
+// refused step votes on none, 0.
 pub struct ReserveStep {
     pub state: Reserve,
     pub answer: VoteAnswer,

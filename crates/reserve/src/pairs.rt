@@ -1,4 +1,4 @@
-// The pair that was voted on at each sample of a run, told from the run's marks: a run writes words and marks alone.
+// The pair that was voted on at each sample of a run, told from the run's marks: a run writes no pair.
 ghost use mathlib.Core.Path.{_≡_};
 ghost use lib.ListN.{length};
 ghost use Rattle.reserve.specs.Pairs.{told, nextPair, pairsOf, pairsIn};

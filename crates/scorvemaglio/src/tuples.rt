@@ -90,12 +90,10 @@ fn put_step(state: &mut [u32; NUMBERS], answer: &mut [u32; 4], taken: TupleStep)
         return number;
     }
     *state = tuple_numbers(taken.state);
-    *answer = [
-        shown.word(),
-        shown.mark() as u32,
-        shown.mask(),
-        taken.second,
-    ];
+    let word = shown.word();
+    let mark = shown.mark() as u32;
+    let mask = shown.mask();
+    *answer = [word, mark, mask, taken.second];
     0
 }
 

@@ -57,7 +57,8 @@ pub data Row : Type 0 where
   readings_and_and_tolerance_agreed_ : Float → Float → Float → Float → Float → Row
   readings_and_and_tolerance_alarm : Float → Float → Float → Float → Row
 
--- a sizing is claimed field by field; a run is lent slices of the right lengths, and what they hold before does not matter
+-- a sizing is claimed field by field; a run is lent slices of the right lengths, and what they hold before does not matter: the
+-- marks stand for the slice of T-09, too
 abbrev pub Holds : Row → Type 0
 Holds (sizing-n n Tm tm TM tM D d gives-N need age: old gap: quiet) = let z = sizingOf n tm tM d in (z .refusal ≡ 0) × (z .need ≡ need) × (z .age ≡ old) × (z .quiet ≡ quiet)
 Holds (count-n n Tm tm TM tM D d is need) = sizingOf n tm tM d .need ≡ need

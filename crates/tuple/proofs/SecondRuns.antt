@@ -1,7 +1,6 @@
 -- T-09, of a run of the tuple vote: what stands written for the second unit, signal by signal, by the samples alone; no bit at n or above; and
 -- "neither" for no signal.
 use mathlib.Core.Path.{_≡_, refl, sym, ap, subst, _∙_}
-use mathlib.Core.Logic.{_↔_}
 use mathlib.Core.List.{List, [], _∷_, map, zip}
 use mathlib.Core.Bool.{false}
 use Prim.Native.Nat.{ℕ, _<_}
@@ -21,7 +20,7 @@ use Rattle.vote.specs.declared.Vote.{Vote}
 use Rattle.vote.proofs.ByRun.{left-agreed}
 use Rattle.tuple.specs.declared.Tuple.{Tuple}
 use Rattle.tuple.specs.Run.{leaves, stepped, steps, shownWord, shownMask, shownMark, shownSecond, answerOf, Ran}
-use Rattle.tuple.specs.Second.{signalOf, FirstOrSecond}
+use Rattle.tuple.specs.Second.{signalOf, OneWhereSecond, FirstOrSecond}
 use Rattle.tuple.specs.Tuple.{width, fresh, voter}
 use Rattle.tuple.proofs.Accepted.{accept}
 use Rattle.tuple.proofs.Clauses.{same-sizes}
@@ -58,7 +57,7 @@ module _ (s : Tuple) (xs : List (ℕ × ℕ)) (k : ℕ) (m : k < length xs) wher
 
   module _ (i : ℕ) (l : i < width s) where
     pub steps-second : let x = signalOf i (getD xs k (0, 0)) in
-        (bit i written ≡ 1) ↔ ((x .0 ≡ x .1 → ⊥) × (x .1 ≡ lastAgreed (bit i (s .agreed)) (map (signalOf i) (take k xs))))
+        OneWhereSecond (lastAgreed (bit i (s .agreed)) (map (signalOf i) (take k xs))) x (bit i written)
     steps-second = rw (at-sample, ← left-bit s i l (take k xs)) (second-exactly before _ _ i (rw same-width l))
 
     steps-tell : let x = signalOf i (getD xs k (0, 0)) in
@@ -101,7 +100,7 @@ module _
   inside = omega (arith, zip-length a b long)
 
   pub run-second : (i : ℕ) → i < n → let x = signalOf i (getD a k 0, getD b k 0) in
-      (bit i (getD seconds′ k 0) ≡ 1) ↔ ((x .0 ≡ x .1 → ⊥) × (x .1 ≡ lastAgreed (bit i word) (map (signalOf i) (take k (zip a b)))))
+      OneWhereSecond (lastAgreed (bit i word) (map (signalOf i) (take k (zip a b)))) x (bit i (getD seconds′ k 0))
   run-second i l =
       let at = steps-second (fresh n votes need word) (zip a b) k inside i l in
       rw (ran .seconds-after) (rw (zip-at a b k 0 0 m long) at at)

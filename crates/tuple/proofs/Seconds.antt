@@ -28,7 +28,7 @@ use Rattle.vote.proofs.Bytes as voteBytes
 use Rattle.tuple.specs.declared.Tuple.{Tuple}
 use Rattle.tuple.specs.declared.TupleStep.{TupleStep}
 use Rattle.tuple.specs.Answers.{numberOf}
-use Rattle.tuple.specs.Second.{FirstOrSecond, Tells}
+use Rattle.tuple.specs.Second.{signalOf, OneWhereSecond, FirstOrSecond, Tells}
 use Rattle.tuple.specs.Tuple.{width, voteNeed, voter, ifSecond, secondBit, votersOf, clauses, rowsOf, notTaken, stepOf}
 use Rattle.tuple.proofs.Clauses.{either-way}
 use Rattle.tuple.proofs.Small.{second-small, seconds-small}
@@ -39,15 +39,15 @@ if-second First = (λ e. absurd (omega arith), λ e. absurd (omega arith))
 if-second Second = (λ e. refl, λ e. refl)
 if-second Neither = (λ e. absurd (omega arith), λ e. absurd (omega arith))
 
-pub one-where : (v : VoteAnswer) → (secondBit v ≡ 1) ↔ (whichOf v ≡ 2)
-one-where (Agreed w) = (λ e. absurd (omega arith), λ e. absurd (omega arith))
-one-where (Held w u) = if-second u
-one-where (Alarm w u) = if-second u
-one-where (Refused k) = (λ e. absurd (omega arith), λ e. absurd (omega arith))
+pub as-byte : (v : VoteAnswer) → (secondBit v ≡ 1) ↔ (whichOf v ≡ 2)
+as-byte (Agreed w) = (λ e. absurd (omega arith), λ e. absurd (omega arith))
+as-byte (Held w u) = if-second u
+as-byte (Alarm w u) = if-second u
+as-byte (Refused k) = (λ e. absurd (omega arith), λ e. absurd (omega arith))
 
 -- of a vote: exactly where the two differ and the second shows the agreed word
-vote-exactly : (s : Vote) (a b : ℕ) → (secondBit (vote.clauses s a b false .answer) ≡ 1) ↔ ((a ≡ b → ⊥) × (b ≡ s .word))
-vote-exactly s a b = Iff·trans (one-where (vote.clauses s a b false .answer)) (voteBytes.which-exactly s a b false .second)
+vote-exactly : (s : Vote) (a b : ℕ) → OneWhereSecond (s .word) (a, b) (secondBit (vote.clauses s a b false .answer))
+vote-exactly s a b = Iff·trans (as-byte (vote.clauses s a b false .answer)) (voteBytes.which-exactly s a b false .second)
 
 -- and of bits, where they differ and the second does not, the first does
 vote-tells : (s : Vote) (a b : ℕ) → s .word < 2 → a < 2 → b < 2 → (a ≡ b → ⊥) → FirstOrSecond (s .word) (a, b) (secondBit (vote.clauses s a b false .answer))
@@ -73,14 +73,14 @@ module _ (s : Tuple) (a b : ℕ) where
   pub second-bit : (i : ℕ) → i < width s → bit i (clauses s a b .second) ≡ secondBit (vote-of i)
   second-bit i l = rw second-is (word-bit (λ k. secondBit (vote-of k)) (λ k. second-small (vote-of k)) (width s) i l)
 
-  pub second-exactly : (i : ℕ) → i < width s → (bit i (clauses s a b .second) ≡ 1) ↔ ((bit i a ≡ bit i b → ⊥) × (bit i b ≡ bit i (s .agreed)))
+  pub second-exactly : (i : ℕ) → i < width s → OneWhereSecond (bit i (s .agreed)) (signalOf i (a, b)) (bit i (clauses s a b .second))
   second-exactly i l = rw (second-bit i l) (vote-exactly (voter s i) (bit i a) (bit i b))
 
   pub second-inside : outside (width s) (clauses s a b .second) ≡ false
   second-inside = rw second-is (lt-inside (width s) (votersOf s a b .second) (seconds-small (voteNeed s) (s .agreed) (s .counts) a b (width s)))
 
   -- neither cannot occur
-  pub tells : (i : ℕ) → i < width s → (bit i a ≡ bit i b → ⊥) → FirstOrSecond (bit i (s .agreed)) (bit i a, bit i b) (bit i (clauses s a b .second))
+  pub tells : (i : ℕ) → i < width s → (bit i a ≡ bit i b → ⊥) → FirstOrSecond (bit i (s .agreed)) (signalOf i (a, b)) (bit i (clauses s a b .second))
   tells i l apart = rw (second-bit i l) (vote-tells (voter s i) (bit i a) (bit i b) (bit-small i (s .agreed)) (bit-small i a) (bit-small i b) apart)
 
   -- the public step
@@ -90,12 +90,11 @@ module _ (s : Tuple) (a b : ℕ) where
       either-answer (Tells s a b) (first (rowsOf s a b)) (notTaken s) (clauses s a b) (λ k some none. absurd (some none)) (λ e none. tells)
 
   pub step-second :
-      numberOf (stepOf s a b .answer) ≡ 0 → (i : ℕ) → i < width s
-      → (bit i (stepOf s a b .second) ≡ 1) ↔ ((bit i a ≡ bit i b → ⊥) × (bit i b ≡ bit i (s .agreed)))
+      numberOf (stepOf s a b .answer) ≡ 0 → (i : ℕ) → i < width s → OneWhereSecond (bit i (s .agreed)) (signalOf i (a, b)) (bit i (stepOf s a b .second))
   unfolding stepOf
   step-second =
       either-answer
-      (λ (t : TupleStep). numberOf (t .answer) ≡ 0 → (i : ℕ) → i < width s → (bit i (t .second) ≡ 1) ↔ ((bit i a ≡ bit i b → ⊥) × (bit i b ≡ bit i (s .agreed))))
+      (λ (t : TupleStep). numberOf (t .answer) ≡ 0 → (i : ℕ) → i < width s → OneWhereSecond (bit i (s .agreed)) (signalOf i (a, b)) (bit i (t .second)))
       (first (rowsOf s a b)) (notTaken s) (clauses s a b) (λ k some none. absurd (some none)) (λ e none. second-exactly)
 
   -- refused or not

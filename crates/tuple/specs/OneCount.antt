@@ -1,6 +1,7 @@
 -- The tuple vote as it was before T-02 and T-09, with one count N for its voters and its confirmation and without a word for the second
 -- unit: the text of `Tuple.antt` and of `Run.antt` then, of a state without the voters' count. What these left alone is not said
--- again. No promise names it: it serves the theorems that with equal counts nothing else changed (`proofs/OneCount.antt`).
+-- again; of today's voters what T-09 has them tell is not read. No promise names it: it serves the theorems that with equal counts
+-- nothing else changed (`proofs/OneCount.antt`).
 use Prim.Native.Nat.{ℕ}
 use mathlib.Core.Path.{_≡_}
 use mathlib.Core.List.{List, map, zip}

@@ -39,8 +39,8 @@ pub enum TupleAnswer {
     Refused(u32),
 }
 
-// A step's answer, beside the state that it leaves. Whatever the answer, `second` has a one where the signals differ and the second
-// unit shows the agreed bit; where they differ and it has none, the first does.
+// A step's answer, beside the state that it leaves. Whatever the mark, `second` has a one where the signals differ and the second
+// unit shows the agreed bit; where they differ and it has none, the first does. A refused step has none.
 pub struct TupleStep {
     pub state: Tuple,
     pub answer: TupleAnswer,
@@ -296,8 +296,8 @@ pub fn run(
         r (now (words .exit)) (now (masks .exit)) (now (marks .exit)) (now (seconds .exit)) ⌝ }
 {
     let len = a.len();
-    let shown = (len != words.len()) | (len != masks.len()) | (len != marks.len());
-    let unequal = shown | (len != seconds.len());
+    let some_unequal = (len != words.len()) | (len != masks.len()) | (len != marks.len());
+    let unequal = some_unequal | (len != seconds.len());
     let answer = trace::judge_pair(bad_counts(votes, need), n, word, a, b, unequal);
     let RunAnswer::Done = answer else {
         return answer;

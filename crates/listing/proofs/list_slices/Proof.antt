@@ -1,9 +1,17 @@
 -- `list_slices` meets its contract: as many places of each slice as there are samples.
-use mathlib.Core.Path.{sym}
+use mathlib.Core.Path.{_≡_, sym}
+use Prim.Native.Nat.{ℕ, _≤_}
+use mathlib.Core.List.{List}
+use native.Mathlib.Omega.{arith}
 use borrow.Author.Needs.{needs}
-use Rattle.listing.proofs.Accepts.{part}
+use lib.ListN.{length, take}
+use lib.Seq.{length-take-le}
 use Rattle.listing.proofs.list_slices.Statement.{statement}
 use Rattle.listing.proofs.list_slices.Tie as tie
+
+-- so many places at the start of 2,048
+part : (k : ℕ) (l : List ℕ) → length l ≡ 2048 → k ≤ 2048 → k ≡ length (take k l)
+part k l e h = sym (length-take-le k l (omega arith))
 
 list-units-requires : tie.Need-list-units-requires
 list-units-requires c κs =
