@@ -13,13 +13,14 @@ static uint32_t times[SAMPLES], one[SAMPLES], two[SAMPLES], three[SAMPLES], four
 static uint32_t words[SAMPLES], masks[SAMPLES], seconds[SAMPLES];
 static uint8_t marks[SAMPLES], text[SCORVE_LONGEST_LISTING];
 
-/* Of the signals that differ unit 2 shows the last agreed value of some, and unit 1 of the others. */
+/* Of the signals that differ unit 2 shows the last agreed value of some, and unit 1 of the others; a one for each. */
 static void print_alarm(size_t i)
 {
   const uint32_t first = (one[i] ^ two[i]) & ~seconds[i];
   printf("alarm at sample %u, %u us: unit 1 shows %08x, unit 2 %08x; signals %08x, word %08x\n", (unsigned)i,
          (unsigned)times[i], (unsigned)one[i], (unsigned)two[i], (unsigned)masks[i], (unsigned)words[i]);
-  printf("  the last agreed values: unit 1 still shows %08x, unit 2 %08x\n", (unsigned)first, (unsigned)seconds[i]);
+  printf("  of the signals that differ, unit 1 still shows the agreed value of %08x, unit 2 of %08x\n", (unsigned)first,
+         (unsigned)seconds[i]);
 }
 
 /* Votes on the whole trace; every slice of a run has as many places as the trace has samples. A recording's need

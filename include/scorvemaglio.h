@@ -122,7 +122,8 @@ enum scorve_mark {
 };
 
 /* Which unit still shows the last agreed word, on hold and alarm: a place in the pair
- * that was voted on. It does not say which unit is wrong (docs/COMMISSIONING.md, 9). */
+ * that was voted on. Before any agreement that word is the initial one. It does not say
+ * which unit is wrong (docs/COMMISSIONING.md, 9). A run writes it for each sample. */
 enum scorve_which {
   SCORVE_UNITS_AGREE = 0, /* nothing is asked: the units agree, on that word or on another */
   SCORVE_FIRST = 1,       /* the first does: unit 1, in the second pair unit 3 */
@@ -201,7 +202,7 @@ typedef struct scorve_tuple_answer {
   uint32_t word, mark; /* SCORVE_CONFIRMED, SCORVE_HELD or SCORVE_ALARM */
   uint32_t mask;       /* the signals that alarm, 0 for none */
   uint32_t second;     /* the signals that differ and of which unit 2 shows the last agreed value, whatever the mark;
-                          of the others that differ, (a ^ b) & ~second, unit 1 does */
+                          of the others that differ, (a ^ b) & ~second, unit 1 does; a run's seconds are these */
 } scorve_tuple_answer;
 
 uint32_t scorve_tuple_from_word(scorve_tuple *state, uint32_t n, uint32_t votes, uint32_t need, uint32_t word);
@@ -226,7 +227,7 @@ typedef struct scorve_reserve {
 typedef struct scorve_reserve_answer {
   uint32_t word, mark; /* SCORVE_AGREED, SCORVE_HELD or SCORVE_ALARM */
   uint32_t pair;       /* the pair that was voted on, 1 or 2 */
-  uint32_t which;      /* enum scorve_which, of that pair's units; after a hand-over, too, by the word agreed on last */
+  uint32_t which;      /* enum scorve_which, of that pair's units: the word agreed on last, by whichever pair */
 } scorve_reserve_answer;
 
 uint32_t scorve_reserve_from_word(scorve_reserve *state, uint32_t n, uint32_t need, uint32_t word);

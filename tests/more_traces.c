@@ -168,7 +168,7 @@ static trace trace_by_chance(const voter *v, size_t length)
   return t;
 }
 
-#define VALUES 4 /* more than a mark or T-09's byte has; greater ones are not counted */
+#define VALUES 4 /* as many as T-09's byte has; greater ones are not counted */
 
 static void count_values(slice shown, unsigned long seen[VALUES])
 {
@@ -198,7 +198,8 @@ static void runs_equal_their_steps(const voter *v)
     count_values(t.outputs[v->told], told);
   }
   check_all_seen(v, v->marks, marks, v->greatest_mark);
-  check_all_seen(v, v->told, told, v->greatest_told);
+  if (v->greatest_told > 0)
+    check_all_seen(v, v->told, told, v->greatest_told);
 }
 
 void more_traces(void)

@@ -34,8 +34,8 @@ typedef struct voter {
   output outputs[OUTPUTS]; /* in the order of its arguments; the rest have no name */
   size_t marks;            /* the output that holds the marks */
   uint32_t greatest_mark;
-  size_t told;             /* the output that tells of the units (T-09); of a confirmation, 0, it is none */
-  uint32_t greatest_told;  /* the values of it that a test has to meet, from 0 on */
+  size_t told;             /* the output that tells of the units (T-09) */
+  uint32_t greatest_told;  /* the values of it that a test has to meet, from 0 on; of a confirmation 0, it has none */
   uint32_t (*call)(const trace *t, const lent_trace *lent);
   void (*check_steps)(const struct voter *v, const trace *t); /* the run wrote what steps from a fresh state answer */
 } voter;
