@@ -1,4 +1,6 @@
 // Confirmation of a tuple (document 000, definition 6): a state, one step on it, and a run over a lent trace.
+#![tactic(auto)]
+
 mod blocks;
 
 ghost use Rattle.std.specs.Prelude.{◌≡◌};
@@ -10,7 +12,7 @@ ghost use Rattle.confirm.specs.Run.{Ran};
 use trace::RunAnswer;
 
 // The state of a confirmation, with its width n and its count N (`need`).
-#[derive(Drop)]
+#[derive(Clone, Copy)]
 pub struct Confirm {
     pub n: u32,
     pub need: u32,
@@ -21,14 +23,14 @@ pub struct Confirm {
 }
 
 // A constructor's answer: refusal 0 is none.
-#[derive(Drop)]
+#[derive(Clone, Copy)]
 pub struct ConfirmMade {
     pub state: Confirm,
     pub refusal: u32,
 }
 
 // The word that is shown, or a refusal's number.
-#[derive(Drop)]
+#[derive(Clone, Copy)]
 pub enum ConfirmAnswer {
     Confirmed(u32),
     Held(u32),
@@ -36,7 +38,7 @@ pub enum ConfirmAnswer {
 }
 
 // A step's answer, beside the state that it leaves.
-#[derive(Drop)]
+#[derive(Clone, Copy)]
 pub struct ConfirmStep {
     pub state: Confirm,
     pub answer: ConfirmAnswer,

@@ -1,5 +1,7 @@
 // Reads calls from standard input, one a line, makes each on the library, and prints its answer, with every state and lent
 // slice, as one line. The calls and the answers that are expected come from second/, whose page says how a line is written.
+#![tactic(auto)]
+
 mod confirms;
 mod sizings;
 mod thresholds;

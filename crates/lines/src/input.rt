@@ -5,7 +5,7 @@ ghost use Rattle.std.specs.Prelude.{◌≡◌, ◌≤◌, length};
 const END: u32 = 256;
 
 // A number, and the byte that ended it.
-#[derive(Drop)]
+#[derive(Clone, Copy)]
 struct Token {
     value: u64,
     after: u32,

@@ -1,5 +1,7 @@
 // Reads one recording on standard input and writes its listing. The buffer is longer than any recording, so input beyond it gets the
 // answer that the whole input would get (`text_cut` of listing).
+#![tactic(auto)]
+
 fn main() {
     let mut input = io::large_buffer();
     let len = io::read_full(0, &mut input);

@@ -1,4 +1,6 @@
 // The listing of a recording (document 01, "The recording"): bytes in, text into a lent buffer.
+#![tactic(auto)]
+
 mod sheet;
 
 ghost use Rattle.std.specs.Prelude.{◌≡◌, ◌≤◌, length, take};
@@ -10,7 +12,7 @@ use recording::Header;
 use trace::RunAnswer;
 
 // What a recording's units take.
-#[derive(Drop)]
+#[derive(Clone, Copy)]
 enum Kind {
     Confirm,
     Pair,
@@ -19,7 +21,7 @@ enum Kind {
 
 // How long the text is that was written: a listing, or a refused recording's line. Nothing is written into a buffer that could not
 // take the longest text.
-#[derive(Drop)]
+#[derive(Clone, Copy)]
 pub enum ListAnswer {
     Listed(usize),
     Refused(usize),
@@ -40,7 +42,7 @@ impl ListAnswer {
 }
 
 // The bytes of the longest text: a buffer has to have as many.
-#[derive(Drop)]
+#[derive(Clone, Copy)]
 pub struct Listing {}
 
 impl Listing {

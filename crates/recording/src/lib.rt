@@ -1,4 +1,6 @@
 // The reader of recordings (document 01, "The recording"): bytes in, the header's values out, and each column into a lent slice.
+#![tactic(auto)]
+
 mod samples;
 
 ghost use Rattle.std.specs.Prelude.{◌≡◌, ◌++◌, ◌+◌, ◌≤◌, ◌<◌, length, drop};
@@ -10,7 +12,7 @@ use rules::Limits;
 use trace::RunAnswer;
 
 // What a recording's header says.
-#[derive(Drop)]
+#[derive(Clone, Copy)]
 pub struct Header {
     pub units: u32,
     pub samples: u32,
@@ -20,7 +22,7 @@ pub struct Header {
 }
 
 // The reader's answer, beside the header's values, which are zeros if it is refused.
-#[derive(Drop)]
+#[derive(Clone, Copy)]
 pub struct RecordingRead {
     pub header: Header,
     pub answer: RunAnswer,

@@ -1,4 +1,6 @@
 // The reserve vote over two pairs of units (document 000, definition 17): a state, one step on it, and a run over four lent columns.
+#![tactic(auto)]
+
 pub mod pairs;
 
 ghost use Rattle.std.specs.Prelude.{◌≡◌, ◌<◌, length};
@@ -13,7 +15,7 @@ use trace::RunAnswer;
 use vote::{Vote, VoteAnswer, VoteStep};
 
 // Which pair is in force: units 1 and 2; units 3 and 4 with a reset, for one step; units 3 and 4 for ever.
-#[derive(Drop)]
+#[derive(Clone, Copy)]
 pub enum Phase {
     Primary,
     TakingOver,
@@ -21,14 +23,14 @@ pub enum Phase {
 }
 
 // The state of a reserve vote: the phase, and the state of the vote, whichever pair it is on.
-#[derive(Drop)]
+#[derive(Clone, Copy)]
 pub struct Reserve {
     pub phase: Phase,
     pub vote: Vote,
 }
 
 // A constructor's answer: refusal 0 is none.
-#[derive(Drop)]
+#[derive(Clone, Copy)]
 pub struct ReserveMade {
     pub state: Reserve,
     pub refusal: u32,
@@ -36,7 +38,7 @@ pub struct ReserveMade {
 
 // A step's answer, whose unit is one of the pair that was voted on, and that pair, 1 or 2, beside the state that it leaves. A
 // refused step votes on none, 0.
-#[derive(Drop)]
+#[derive(Clone, Copy)]
 pub struct ReserveStep {
     pub state: Reserve,
     pub answer: VoteAnswer,
@@ -141,7 +143,7 @@ impl Reserve {
     }
 }
 
-// A step for each sample from a hand_over on, at sample `over`: what each shows is written. The first is with a reset.
+// A step for each sample from a hand-over on, at sample `over`: what each shows is written. The first is with a reset.
 fn take_over(
     alarmed: Vote,
     over: usize,

@@ -1,11 +1,13 @@
 // Limits, words and refusals: what every other room tests and answers by.
+#![tactic(auto)]
+
 ghost use Rattle.std.specs.Prelude.{◌≡◌, true, ◌-◌};
 ghost use Rattle.rules.specs.Limits.{bad_count, bad_width, outside, default_word};
 ghost use Rattle.rules.specs.Table.{first, or_else};
 ghost use Rattle.rules.specs.Refusals.{make_rows, step_rows, counted, admits};
 
 // The limits: of a count N, of a width n, and of a trace's samples.
-#[derive(Drop)]
+#[derive(Clone, Copy)]
 pub struct Limits {}
 
 impl Limits {

@@ -1,5 +1,7 @@
 // The boundary for C: the calls that a dispatcher makes, on numbers and lent arrays. A refused call returns its number and writes
 // nothing; only the number of the sample is told with every run and every reading.
+#![tactic(auto)]
+
 mod confirms;
 mod others;
 mod reserves;

@@ -1,11 +1,13 @@
 // Sizing of counts and bounds (document 01, "Sizing"; T-02): from the width, the gaps between samples and the greatest delay.
+#![tactic(auto)]
+
 ghost use Rattle.std.specs.Prelude.{◌≡◌, ◌/◌, ◌≤◌};
 ghost use Rattle.rules.specs.Table.{first};
 ghost use Rattle.sizing.specs.Sizing.{bad_gaps, count_of, votes_of, size_rows, sizing_of};
 
 // The confirmation's count N, the votes' count, and from N the age bound and the quiet gap; refusal 0 is none. Times are whole
 // microseconds.
-#[derive(Drop)]
+#[derive(Clone, Copy)]
 pub struct Sizing {
     pub refusal: u32,
     pub need: u32,

@@ -1,5 +1,7 @@
 // Text in a lent buffer: a byte, a text, a number in decimal or in hexadecimal digits, put at a place. Each call answers with
 // the place after what it wrote, or, where there is no room, with the place itself.
+#![tactic(auto)]
+
 ghost use Rattle.std.specs.Prelude.{◌≡◌, [], ◌∷◌, ◌+◌, ◌≤◌, ◌<◌, leb, length};
 ghost use Rattle.text.specs.Text.{glyph, digits, places, decimal, hex8, line};
 ghost use Rattle.text.specs.Put.{Placed, Wrote};

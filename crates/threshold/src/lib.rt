@@ -1,10 +1,12 @@
 // The 2/3 threshold vote on readings (document 000, 6.1): one call, without a state.
+#![tactic(auto)]
+
 ghost use Rattle.std.specs.Prelude.{◌≡◌, ◌&&◌, T};
 ghost use Rattle.std.specs.Float.Ieee.Scale.{finite};
 ghost use Rattle.threshold.specs.Threshold.{number_of, mark_of, lesser, greater, magnitude_of, within, bad_readings, agrees, median_of, threshold_of};
 
 // Three readings and their tolerance.
-#[derive(Drop)]
+#[derive(Clone, Copy)]
 pub struct Readings {
     pub x1: f64,
     pub x2: f64,
@@ -13,7 +15,7 @@ pub struct Readings {
 }
 
 // The reading that was agreed on, an alarm, or a refusal's number.
-#[derive(Drop)]
+#[derive(Clone, Copy)]
 pub enum Threshold {
     Agreed(f64),
     Alarm,

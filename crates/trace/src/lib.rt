@@ -1,5 +1,7 @@
 // A run over a trace: its answer, its refusals, and the search for a sample outside the width. What a run is, for any kind of
 // state, sample and answer, stands in specs/; the laws by which a loop that fills lent slices is shown to be one, in proofs/.
+#![tactic(auto)]
+
 ghost use Rattle.std.specs.Prelude.{◌≡◌, false, ◌≤◌, min, length};
 ghost use Rattle.rules.specs.Limits.{too_long, outside};
 ghost use Rattle.rules.specs.Table.{first};
@@ -8,7 +10,7 @@ ghost use Rattle.trace.specs.Samples.{first_where, somewhere};
 ghost use Rattle.trace.specs.Answers.{run_number, run_sample, run_answer, sampled_of, pair_answer, four_answer};
 
 // The answer of every run. The sample number is 0 except with 6.
-#[derive(Drop)]
+#[derive(Clone, Copy)]
 pub enum RunAnswer {
     Done,
     Refused { number: u32, sample: u32 },

@@ -1,5 +1,7 @@
 // The tuple vote (document 000, definition 15; T-02, T-09): a plain vote for each signal, and a confirmation of the voted word,
 // each with a count of its own.
+#![tactic(auto)]
+
 mod signals;
 mod steps;
 
@@ -17,7 +19,7 @@ use trace::RunAnswer;
 
 // The state of a tuple vote: the voters' N, the confirmation's state, which has n and its own N, the agreed signals as one word,
 // and a count for each signal; places at n and above are zero.
-#[derive(Drop)]
+#[derive(Clone, Copy)]
 pub struct Tuple {
     pub votes: u32,
     pub confirm: Confirm,
@@ -26,14 +28,14 @@ pub struct Tuple {
 }
 
 // A constructor's answer: refusal 0 is none.
-#[derive(Drop)]
+#[derive(Clone, Copy)]
 pub struct TupleMade {
     pub state: Tuple,
     pub refusal: u32,
 }
 
 // The word that is shown, on alarm the previous output beside the alarm mask, or a refusal's number.
-#[derive(Drop)]
+#[derive(Clone, Copy)]
 pub enum TupleAnswer {
     Confirmed(u32),
     Held(u32),
@@ -43,7 +45,7 @@ pub enum TupleAnswer {
 
 // A step's answer, beside the state that it leaves. Whatever the mark, `second` has a one where the signals differ and the second
 // unit shows the agreed bit; where they differ and it has none, the first does. A refused step has none.
-#[derive(Drop)]
+#[derive(Clone, Copy)]
 pub struct TupleStep {
     pub state: Tuple,
     pub answer: TupleAnswer,
@@ -51,7 +53,7 @@ pub struct TupleStep {
 }
 
 // What the voters of all signals leave at one sample: what the definitions of a step speak of, so other rooms can name it.
-#[derive(Drop)]
+#[derive(Clone, Copy)]
 pub struct Voters {
     pub word: u32,
     pub mask: u32,
@@ -60,7 +62,7 @@ pub struct Voters {
 }
 
 // The same without the counts, which step in place.
-#[derive(Drop)]
+#[derive(Clone, Copy)]
 struct Voted {
     pub word: u32,
     pub mask: u32,
@@ -68,14 +70,14 @@ struct Voted {
 }
 
 // The places that count, and those whose count is above the voters' N-1, as a word each.
-#[derive(Drop)]
+#[derive(Clone, Copy)]
 struct Places {
     pub counting: u32,
     pub over: u32,
 }
 
 // What is decided of a sample: the confirmation's state that is left, and the answer.
-#[derive(Drop)]
+#[derive(Clone, Copy)]
 struct Decided {
     pub confirm: Confirm,
     pub answer: TupleAnswer,

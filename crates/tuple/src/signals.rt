@@ -1,8 +1,7 @@
 // A sample of the voters, top to bottom: the signals that disagree, as one word, and what each signal does that looks at it.
 // Below it: what number 7 asks of the counts, and the table of the places. N, `need`, is the voters'.
-ghost use Rattle.std.specs.Prelude.{◌≡◌, false, ◌++◌, ℕ, ◌≤◌, ◌-◌, ◌^◌, ltb, length, get_or, drop};
+ghost use Rattle.std.specs.Prelude.{◌≡◌, false, ◌++◌, ℕ, ◌≤◌, ◌-◌, ◌^◌, ltb, length, get_or, drop, if◌then◌else◌};
 ghost use Rattle.rules.specs.Bits.{bit};
-ghost use Rattle.rules.specs.Choose.{if◌then◌else◌};
 ghost use Rattle.rules.specs.Limits.{outside};
 ghost use Rattle.rules.specs.Signals.{as_word, as_list};
 ghost use Rattle.tuple.specs.Disagreement.{disagreement, bit_by, count_by, alarm_by, second_by, voters_by};

@@ -1,4 +1,6 @@
 // The vote of two words (document 000, definitions 14 and 16): a state, one step on it, and a run over two lent columns.
+#![tactic(auto)]
+
 pub mod columns;
 
 ghost use Rattle.std.specs.Prelude.{◌≡◌};
@@ -11,7 +13,7 @@ ghost use Rattle.vote.specs.Which.{NotNeither};
 use trace::RunAnswer;
 
 // The state of a vote, with its width n and its count N (`need`).
-#[derive(Drop)]
+#[derive(Clone, Copy)]
 pub struct Vote {
     pub n: u32,
     pub need: u32,
@@ -21,14 +23,14 @@ pub struct Vote {
 }
 
 // A constructor's answer: refusal 0 is none.
-#[derive(Drop)]
+#[derive(Clone, Copy)]
 pub struct VoteMade {
     pub state: Vote,
     pub refusal: u32,
 }
 
 // Which unit still shows the last agreed word, where the two differ.
-#[derive(Drop)]
+#[derive(Clone, Copy)]
 pub enum Which {
     First,
     Second,
@@ -36,7 +38,7 @@ pub enum Which {
 }
 
 // The word that is shown, on hold and alarm the last agreed one with the unit that still shows it, or a refusal's number.
-#[derive(Drop)]
+#[derive(Clone, Copy)]
 pub enum VoteAnswer {
     Agreed(u32),
     Held(u32, Which),
@@ -45,21 +47,21 @@ pub enum VoteAnswer {
 }
 
 // A step's answer, beside the state that it leaves.
-#[derive(Drop)]
+#[derive(Clone, Copy)]
 pub struct VoteStep {
     pub state: Vote,
     pub answer: VoteAnswer,
 }
 
 // Steps over a part of two columns: the state that they leave, and the number of the sample after them.
-#[derive(Drop)]
+#[derive(Clone, Copy)]
 pub struct VotePart {
     pub state: Vote,
     pub end: usize,
 }
 
 // The same of a row of samples that disagree, and whether an alarm has ended the steps with it.
-#[derive(Drop)]
+#[derive(Clone, Copy)]
 struct VoteRow {
     pub state: Vote,
     pub end: usize,
