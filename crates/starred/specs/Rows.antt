@@ -43,7 +43,7 @@ column {X} unit = map (λ (l : VoteLine X). unit (seen_in l))
 
 infix 70 sizing-n◌Tm◌TM◌D◌gives-N◌age:◌gap:◌ count-n◌Tm◌TM◌D◌is◌ sizing-n◌Tm◌TM◌D◌refused◌
 infix 70 recording◌lists◌ vote-n◌N◌from◌lists◌ reserve-n◌N◌from◌lists◌
-infix 70 readings◌and◌and◌tolerance◌agreed◌ readings_and_and_tolerance_alarm
+infix 70 readings◌and◌and◌tolerance◌agreed◌ readings◌and◌and◌tolerance◌alarm
 pub data Row : Type 0 where
   sizing-n◌Tm◌TM◌D◌gives-N◌age:◌gap:◌ : ℕ → ℕ → ℕ → ℕ → ℕ → ℕ → ℕ → Row
   count-n◌Tm◌TM◌D◌is◌ : ℕ → ℕ → ℕ → ℕ → ℕ → Row
@@ -52,7 +52,7 @@ pub data Row : Type 0 where
   vote-n◌N◌from◌lists◌ : ℕ → ℕ → ℕ → List (VoteLine (ℕ × ℕ)) → Row
   reserve-n◌N◌from◌lists◌ : ℕ → ℕ → ℕ → List (VoteLine reserve_run.Sample) → Row
   readings◌and◌and◌tolerance◌agreed◌ : Float → Float → Float → Float → Float → Row
-  readings_and_and_tolerance_alarm : Float → Float → Float → Float → Row
+  readings◌and◌and◌tolerance◌alarm : Float → Float → Float → Float → Row
 
 -- a sizing is claimed field by field; a run is lent slices of the right lengths, and what they hold before does not matter: the
 -- marks stand for the slice of T-09, too

@@ -9,7 +9,7 @@ use Rattle.reserve.specs.Run.{Sample}
 use Rattle.starred.specs.Rows.{Row, VoteLine}
 use Rattle.starred.specs.Rows.{◌agreed◌, ◌held◌, ◌alarm◌}
 use Rattle.starred.specs.Rows.{sizing-n◌Tm◌TM◌D◌gives-N◌age:◌gap:◌, count-n◌Tm◌TM◌D◌is◌, sizing-n◌Tm◌TM◌D◌refused◌, recording◌lists◌, vote-n◌N◌from◌lists◌, reserve-n◌N◌from◌lists◌}
-use Rattle.starred.specs.Rows.{readings◌and◌and◌tolerance◌agreed◌, readings_and_and_tolerance_alarm}
+use Rattle.starred.specs.Rows.{readings◌and◌and◌tolerance◌agreed◌, readings◌and◌and◌tolerance◌alarm}
 
 -- "One unit, n 2, N 2, initial word 0, samples 0 1 1 3 3 3": the recording, with times from 10 to 60
 abbrev pub recorded : List ℕ
