@@ -1,6 +1,5 @@
 -- Confirmation of a tuple: document 000, definition 6, its clauses in document 01's order; the first that applies is taken.
-use Rattle.std.specs.Prelude.{ℕ, ◌+◌, ◌-◌, List, Bool, not, ◌||◌, ltb, eqb}
-use Rattle.rules.specs.Choose.{if◌then◌else◌}
+use Rattle.std.specs.Prelude.{ℕ, ◌+◌, ◌-◌, List, Bool, not, ◌||◌, ltb, eqb, if◌then◌else◌}
 use Rattle.rules.specs.Limits.{bad_count, outside}
 use Rattle.rules.specs.Table.{Row, first, answer}
 use Rattle.rules.specs.Refusals.{make_rows, step_rows}

@@ -1,6 +1,5 @@
 -- How many lines a text has: as many as bytes that are a newline.
-use Rattle.std.specs.Prelude.{ℕ, ◌+◌, List, [], ◌∷◌, eqb}
-use Rattle.rules.specs.Choose.{if◌then◌else◌}
+use Rattle.std.specs.Prelude.{ℕ, ◌+◌, List, [], ◌∷◌, eqb, if◌then◌else◌}
 
 -- how many bytes of a text are c
 unfoldable pub occurrences : ℕ → List ℕ → ℕ

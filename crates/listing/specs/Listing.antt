@@ -1,9 +1,8 @@
 -- The text of a listing: document 01, "The recording". Bytes of a recording in, text out, line by line.
-use Rattle.std.specs.Prelude.{ℕ, zero, suc, ◌≤◌, ◌≡◌, Bool, false, ltb, eqb, length, get_or, drop}
+use Rattle.std.specs.Prelude.{ℕ, zero, suc, ◌≤◌, ◌≡◌, Bool, false, ltb, eqb, length, get_or, drop, if◌then◌else◌}
 use Prim.Native.Char.{code}
 use Prim.Native.String.{String}
 use mathlib.Core.List.{List, [], ◌++◌, map, zip}
-use Rattle.rules.specs.Choose.{if◌then◌else◌}
 use Rattle.rules.specs.Signals.{as_list}
 use Rattle.trace.specs.declared.RunAnswer.{RunAnswer}
 use Rattle.trace.specs.declared.RunAnswer.TheVariants.{Done, Refused as RunRefused}

@@ -52,7 +52,7 @@ pub record SizedBy (w : Watch) (n tm tM d : ℕ) (z : Sizing) : Type 0 where
   pub not_refused : z.refusal ≡ 0
   pub its_count : z.need ≡ w.need
 
--- what its numbers are: N-as-Tm > D, and the bounds of demand 3 are the ones returned
+-- what its numbers are: N·Tm > D, and the bounds of demand 3 are the ones returned
 pub record Bounds (w : Watch) (z : Sizing) : Type 0 where
   pub enough : Enough w
   pub age_is : age_of w ≡ z.age

@@ -21,11 +21,11 @@ QuietWithoutDelay w = (i s s' : ℕ) → i < w.n → s < s' → Changes w i s �
 abbrev pub NotLate : Watch → Type 0
 NotLate w = (i k : ℕ) → i < w.n → There w k → w.taken k ≤ w.read i k + w.d
 
--- N-as-Tm + Tm > D
+-- N·Tm + Tm > D
 abbrev pub CountOneLess : Watch → Type 0
 CountOneLess w = w.d < w.need * w.tm + w.tm
 
--- N-as-Tm ≥ D, which N 0 can meet
+-- N·Tm ≥ D, which N 0 can meet
 abbrev pub NoCount : Watch → Type 0
 NoCount w = w.d ≤ w.need * w.tm
 

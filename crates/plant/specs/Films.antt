@@ -41,7 +41,7 @@ reserved =
 
 -- For each premise, a film in which all others hold, and which shows a word that was never there, or was there too long ago.
 abbrev pub breaks : Premise → Film
--- N-as-Tm is 2 and D is 3, one more: both signals move at 4, but signal 1 is read from before that twice. 1 is confirmed.
+-- N·Tm is 2 and D is 3, one more: both signals move at 4, but signal 1 is read from before that twice. 1 is confirmed.
 breaks enough =
     record {
       n = 2;
@@ -117,7 +117,7 @@ late_start =
       read = (3 ∷ 4 ∷ []) ∷ [];
     }
 
--- N is 0, and D is no more than N-as-Tm: 0 is held for 1, and the age bound is 0.
+-- N is 0, and D is no more than N·Tm: 0 is held for 1, and the age bound is 0.
 abbrev pub uncounted : Film
 uncounted =
     record {

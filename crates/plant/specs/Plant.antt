@@ -39,7 +39,7 @@ There w k = k < length w.samples
 abbrev pub Changes : Watch → ℕ → ℕ → Type 0
 Changes w i s = bit i (w.plant (suc s)) ≢ bit i (w.plant s)
 
--- N-as-Tm > D
+-- N·Tm > D
 abbrev pub Enough : Watch → Type 0
 Enough w = w.d < w.need * w.tm
 
@@ -77,7 +77,7 @@ Quiet w = (i s s' : ℕ) → i < w.n → s < s' → Changes w i s → Changes w 
 
 -- the premises of demand 3
 pub record Observed (w : Watch) : Type 0 where
-  -- the count: N-as-Tm > D
+  -- the count: N·Tm > D
   pub enough : Enough w
   -- tuples of n signals
   pub fits : Fits w

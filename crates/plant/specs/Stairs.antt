@@ -1,8 +1,7 @@
 -- A plant whose initial word is held as long as the age bound allows, for every n, N, Tm, TM and D: its signals rise one after the other,
 -- each so that N samples see it before the next one rises, and every reading is D late.
-use Rattle.std.specs.Prelude.{ℕ, suc, ◌+◌, ◌*◌, leb}
+use Rattle.std.specs.Prelude.{ℕ, suc, ◌+◌, ◌*◌, leb, if◌then◌else◌}
 use Rattle.rules.specs.Bits.{bit}
-use Rattle.rules.specs.Choose.{if◌then◌else◌}
 use Rattle.rules.specs.Signals.{as_word, as_list}
 use Rattle.plant.specs.Plant.{Watch}
 

@@ -1,6 +1,5 @@
 -- The recording: document 01, "The recording". Its bytes, field by field, and what the reader makes of them.
-use Rattle.std.specs.Prelude.{ℕ, ◌+◌, ◌*◌, ◌≤◌, ◌≡◌, List, [], ◌∷◌, ◌++◌, Bool, not, ◌&&◌, ◌||◌, ltb, length, get_or, drop}
-use Rattle.rules.specs.Choose.{if◌then◌else◌}
+use Rattle.std.specs.Prelude.{ℕ, ◌+◌, ◌*◌, ◌≤◌, ◌≡◌, List, [], ◌∷◌, ◌++◌, Bool, not, ◌&&◌, ◌||◌, ltb, length, get_or, drop, if◌then◌else◌}
 use Rattle.rules.specs.Limits.{bad_count, bad_width, too_long, differ, outside}
 use Rattle.rules.specs.Signals.{as_list, some_below}
 use Rattle.rules.specs.Table.{Row, ◌when◌, first, answer}

@@ -1,6 +1,5 @@
 -- The pair that was voted on at each sample of a run, told from the run's marks: an alarm hands over, and nothing hands back.
-use Rattle.std.specs.Prelude.{ℕ, List, map, eqb, length}
-use Rattle.rules.specs.Choose.{if◌then◌else◌}
+use Rattle.std.specs.Prelude.{ℕ, List, map, eqb, length, if◌then◌else◌}
 use Rattle.rules.specs.Limits.{differ}
 use Rattle.trace.specs.Trace.{trace}
 

@@ -1,7 +1,6 @@
 -- T-09: what the pair that was voted on showed at each sample; the byte tells which unit of it still shows the last agreed word.
-use Rattle.std.specs.Prelude.{ℕ, eqb}
+use Rattle.std.specs.Prelude.{ℕ, eqb, if◌then◌else◌}
 use mathlib.Core.List.{List, zip_with}
-use Rattle.rules.specs.Choose.{if◌then◌else◌}
 use Rattle.reserve.specs.Run.{Sample}
 
 -- pair 2 is units 3 and 4

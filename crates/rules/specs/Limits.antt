@@ -1,6 +1,5 @@
 -- The limits of document 01: each test is true exactly when the condition behind its refusal number holds.
-use Rattle.std.specs.Prelude.{ℕ, ◌-◌, ◌^◌, Bool, not, ◌||◌, ltb, eqb}
-use Rattle.rules.specs.Choose.{if◌then◌else◌}
+use Rattle.std.specs.Prelude.{ℕ, ◌-◌, ◌^◌, Bool, not, ◌||◌, ltb, eqb, if◌then◌else◌}
 
 -- 1: a count N is 0 or above 1,000
 abbrev pub bad_count : ℕ → Bool

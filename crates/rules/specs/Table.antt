@@ -1,7 +1,7 @@
 -- A call's refusals as a table of rows, each a number and its test; the first row whose test is true gives the number.
-use Rattle.std.specs.Prelude.{ℕ, ◌<◌, ◌≤◌, ◌≡◌, ◌⊎◌, Bool, true, false, ◌&&◌, ◌||◌, ltb, eqb}
+use Rattle.rules.specs.Choose.{choose◌then◌else◌}
+use Rattle.std.specs.Prelude.{ℕ, ◌<◌, ◌≤◌, ◌≡◌, ◌⊎◌, Bool, true, false, ◌&&◌, ◌||◌, ltb, eqb, if◌then◌else◌}
 use mathlib.Core.List.{List, [], ◌∷◌, Memᴰ}
-use Rattle.rules.specs.Choose.{if◌then◌else◌}
 
 infix 70 ◌when◌
 pub data Row : Type 0 where
@@ -40,7 +40,7 @@ P and Q = P × Q
 abbrev pub Given : ℕ → List Row → Type 0
 Given k [] = k ≡ 0
 Given k (j when b ∷ rows) =
-    if eqb j k then (if has k rows then (b ≡ true) ⊎ Given k rows else (b ≡ true)) else
+    choose eqb j k then (choose has k rows then (b ≡ true) ⊎ Given k rows else (b ≡ true)) else
     (b ≡ false and Given k rows)
 
 -- "where several apply, the lowest number is given": of the rows whose tests are true

@@ -1,6 +1,5 @@
 -- What a call of the boundary promises of its number and of each place that it was lent.
-use Rattle.std.specs.Prelude.{ℕ, ◌≡◌, List, eqb}
-use Rattle.rules.specs.Choose.{if◌then◌else◌}
+use Rattle.std.specs.Prelude.{ℕ, ◌≡◌, List, eqb, if◌then◌else◌}
 use Rattle.trace.specs.Answers.{run_number, run_sample}
 use Rattle.trace.specs.declared.RunAnswer.{RunAnswer}
 

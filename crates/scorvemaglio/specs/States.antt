@@ -1,6 +1,5 @@
 -- States as C has them: numbers, in the order of the header's fields.
-use Rattle.std.specs.Prelude.{ℕ, ◌+◌, List, [], ◌∷◌, ◌++◌, Bool, eqb, ltb, get_or, drop}
-use Rattle.rules.specs.Choose.{if◌then◌else◌}
+use Rattle.std.specs.Prelude.{ℕ, ◌+◌, List, [], ◌∷◌, ◌++◌, Bool, eqb, ltb, get_or, drop, if◌then◌else◌}
 use Rattle.confirm.specs.declared.Confirm.{Confirm}
 use Rattle.vote.specs.declared.Vote.{Vote}
 use Rattle.tuple.specs.declared.Tuple.{Tuple}

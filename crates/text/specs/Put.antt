@@ -1,6 +1,5 @@
 -- Text in a lent buffer: what a call that puts a piece of it at a place promises.
-use Rattle.std.specs.Prelude.{ℕ, ◌+◌, ◌≤◌, ◌≡◌, List, ◌++◌, Bool, length, take, drop, leb}
-use Rattle.rules.specs.Choose.{if◌then◌else◌}
+use Rattle.std.specs.Prelude.{ℕ, ◌+◌, ◌≤◌, ◌≡◌, List, ◌++◌, Bool, length, take, drop, leb, if◌then◌else◌}
 
 -- the buffer with a text at a place, and all before and after it as it was
 unfoldable pub laid : List ℕ → ℕ → List ℕ → List ℕ

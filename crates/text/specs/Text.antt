@@ -1,8 +1,7 @@
 -- Text as the codes of its bytes, all of them ASCII: what is quoted, and numbers in digits.
-use Rattle.std.specs.Prelude.{ℕ, zero, suc, ◌+◌, ◌/◌, ◌%◌, List, [], ◌∷◌, ◌++◌, ltb}
+use Rattle.std.specs.Prelude.{ℕ, zero, suc, ◌+◌, ◌/◌, ◌%◌, List, [], ◌∷◌, ◌++◌, ltb, if◌then◌else◌}
 use Prim.Native.Char.{code}
 use Prim.Native.String.{String, [] as []ˢ, ◌∷◌ as ◌∷ˢ◌}
-use Rattle.rules.specs.Choose.{if◌then◌else◌}
 
 -- a quoted text
 unfoldable pub bytes : String → List ℕ

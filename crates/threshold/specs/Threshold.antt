@@ -1,9 +1,8 @@
 -- The 2/3 threshold vote: document 01, "Threshold vote"; document 000, 6.1. Floats are the logic's account of IEEE 754, at binary64.
-use Rattle.std.specs.Prelude.{ℕ, List, [], ◌∷◌, Bool, not, ◌||◌, Float}
+use Rattle.std.specs.Prelude.{ℕ, List, [], ◌∷◌, Bool, not, ◌||◌, Float, if◌then◌else◌}
 use Rattle.std.specs.Float.{binary64}
 use Rattle.std.specs.Float.Ieee.{of_bits, sub, neg, le, lt}
 use Rattle.std.specs.Float.Ieee.Scale.{finite}
-use Rattle.rules.specs.Choose.{if◌then◌else◌}
 use Rattle.rules.specs.Table.{Row, ◌when◌, first, answer}
 use Rattle.threshold.specs.declared.Readings.{Readings}
 use Rattle.threshold.specs.declared.Threshold.{Threshold}

@@ -1,7 +1,6 @@
 -- A run's answer and what it leaves in a lent slice, for every voter.
-use Rattle.std.specs.Prelude.{ℕ, Bool, ◌||◌, length, ltb, eqb}
+use Rattle.std.specs.Prelude.{ℕ, Bool, ◌||◌, length, ltb, eqb, if◌then◌else◌}
 use mathlib.Core.List.{List, zip}
-use Rattle.rules.specs.Choose.{if◌then◌else◌}
 use Rattle.rules.specs.Limits.{too_long, differ}
 use Rattle.rules.specs.Table.{first, answer}
 use Rattle.rules.specs.Refusals.{run_rows}

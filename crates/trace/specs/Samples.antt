@@ -1,6 +1,5 @@
 -- The smallest sample number with which a test is true.
-use Rattle.std.specs.Prelude.{ℕ, suc, ◌<◌, ◌≡◌, List, [], ◌∷◌, Bool, true, false, ◌||◌, length, get_or, ltb}
-use Rattle.rules.specs.Choose.{if◌then◌else◌}
+use Rattle.std.specs.Prelude.{ℕ, suc, ◌<◌, ◌≡◌, List, [], ◌∷◌, Bool, true, false, ◌||◌, length, get_or, ltb, if◌then◌else◌}
 use Rattle.rules.specs.Limits.{outside}
 
 -- the number of the first sample that the test marks; the number of samples if it marks none

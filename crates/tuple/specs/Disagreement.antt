@@ -1,8 +1,7 @@
 -- T-03: the signals that disagree at a sample, as one word, and the voters as they look at it. The voters of `Tuple.antt`
 -- are the same (`look`, `proofs/Disagreement.antt`), so this page changes no promise. N is the voters'.
-use Rattle.std.specs.Prelude.{ℕ, ◌+◌, ◌-◌, List, ◌++◌, ltb, eqb, get_or, drop}
+use Rattle.std.specs.Prelude.{ℕ, ◌+◌, ◌-◌, List, ◌++◌, ltb, eqb, get_or, drop, if◌then◌else◌}
 use Rattle.rules.specs.Bits.{bit}
-use Rattle.rules.specs.Choose.{if◌then◌else◌}
 use Rattle.rules.specs.Signals.{as_word, as_list}
 use Rattle.tuple.specs.declared.Voters.{Voters}
 

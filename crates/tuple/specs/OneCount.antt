@@ -2,9 +2,8 @@
 -- unit: the text of `Tuple.antt` and of `Run.antt` then, of a state without the voters' count. What these left alone is not said
 -- again; of today's voters what T-09 has them tell is not read. No promise names it: it serves the theorems that with equal counts
 -- nothing else changed (`proofs/OneCount.antt`).
-use Rattle.std.specs.Prelude.{ℕ, ◌≡◌, Bool, not, ◌||◌, eqb, length, replicate}
+use Rattle.std.specs.Prelude.{ℕ, ◌≡◌, Bool, not, ◌||◌, eqb, length, replicate, if◌then◌else◌}
 use mathlib.Core.List.{List, map, zip}
-use Rattle.rules.specs.Choose.{if◌then◌else◌}
 use Rattle.rules.specs.Limits.{bad_count, outside, differ}
 use Rattle.rules.specs.Table.{Row, first, answer}
 use Rattle.rules.specs.Refusals.{make_rows, step_rows}

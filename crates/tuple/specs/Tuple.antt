@@ -1,7 +1,6 @@
 -- The tuple vote: document 000, definition 15, as document 01 has it, and T-02 and T-09 of document 02. Signal i of a word is its bit i.
-use Rattle.std.specs.Prelude.{ℕ, ◌-◌, List, ◌++◌, Bool, false, not, ◌||◌, ltb, eqb, get_or, drop, replicate}
+use Rattle.std.specs.Prelude.{ℕ, ◌-◌, List, ◌++◌, Bool, false, not, ◌||◌, ltb, eqb, get_or, drop, replicate, if◌then◌else◌}
 use Rattle.rules.specs.Bits.{bit}
-use Rattle.rules.specs.Choose.{if◌then◌else◌}
 use Rattle.rules.specs.Limits.{bad_count, outside}
 use Rattle.rules.specs.Signals.{as_word, as_list, some_below}
 use Rattle.rules.specs.Table.{Row, first, answer}

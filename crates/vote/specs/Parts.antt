@@ -1,8 +1,7 @@
 -- From `Lent` on it serves proofs only. Before: steps over the first samples of two columns, without resets, how many are
 -- taken, and what stands written for them.
-use Rattle.std.specs.Prelude.{ℕ, suc, ◌+◌, ◌≡◌, Bool, false, ◌&&◌, eqb, length, take, drop, set}
+use Rattle.std.specs.Prelude.{ℕ, suc, ◌+◌, ◌≡◌, Bool, false, ◌&&◌, eqb, length, take, drop, set, if◌then◌else◌}
 use mathlib.Core.List.{List, [], ◌∷◌, ◌++◌, map, zip}
-use Rattle.rules.specs.Choose.{if◌then◌else◌}
 use Rattle.trace.specs.Answers.{apart_pair}
 use Rattle.trace.specs.Trace.{left}
 use Rattle.vote.specs.declared.Vote.{Vote}

@@ -1,7 +1,6 @@
 -- The vote of two words: document 000, definitions 14 and 16, in document 01's order; the first clause that applies is taken. On hold
 -- and alarm the answer tells which unit still shows the last agreed word (T-09 of document 02).
-use Rattle.std.specs.Prelude.{ℕ, ◌+◌, ◌-◌, List, Bool, ◌||◌, ltb, eqb}
-use Rattle.rules.specs.Choose.{if◌then◌else◌}
+use Rattle.std.specs.Prelude.{ℕ, ◌+◌, ◌-◌, List, Bool, ◌||◌, ltb, eqb, if◌then◌else◌}
 use Rattle.rules.specs.Limits.{bad_count, outside}
 use Rattle.rules.specs.Table.{Row, first, answer}
 use Rattle.rules.specs.Refusals.{make_rows, step_rows}

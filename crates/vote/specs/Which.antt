@@ -1,7 +1,6 @@
 -- T-09 of document 02, sentence by sentence: what the byte says of a sample whose words are a and b, the last agreed word being `word`;
 -- which word that is in a run; and that "neither" cannot occur for single signals.
-use Rattle.std.specs.Prelude.{ℕ, ◌≡◌, ◌↔◌, List, [], ◌∷◌, eqb}
-use Rattle.rules.specs.Choose.{if◌then◌else◌}
+use Rattle.std.specs.Prelude.{ℕ, ◌≡◌, ◌↔◌, List, [], ◌∷◌, eqb, if◌then◌else◌}
 
 -- "a byte 0 agreed, 1 first, 2 second, 3 neither", each exactly when
 pub record Says (word a b byte : ℕ) : Type 0 where
