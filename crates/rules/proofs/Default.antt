@@ -7,7 +7,7 @@ use mathlib.Core.Bool.{Bool, true, false}
 use native.Mathlib.Omega.{arith}
 use lib.Pow.{pow_pos}
 use Rattle.rules.specs.Bits.{bit, AllOnes}
-use Rattle.rules.specs.Choose.{if◌then◌else◌}
+use Rattle.std.specs.Prelude.{if◌then◌else◌}
 use Rattle.rules.specs.Limits.{bad_width, outside, default_word}
 use Rattle.rules.proofs.Bits.{not_bit}
 use Rattle.rules.proofs.Width.{inside_lt, lt_inside, high_zero, within, words_agree}

@@ -7,7 +7,7 @@ use mathlib.Core.Bool.{Bool, true, false}
 use Prim.Native.Nat.{ℕ, ◌-◌, ◌^◌}
 use lib.Dec.{eqb}
 use borrow.Author.Tests.{eqb-true}
-use Rattle.rules.specs.Choose.{if◌then◌else◌}
+use Rattle.std.specs.Prelude.{if◌then◌else◌}
 use Rattle.rules.specs.Limits.{bad_width, outside, default_word}
 use Rattle.rules.specs.Table.{Row, first, answer, numbered, rising, Given, LowestOf, ◌and◌}
 use Rattle.rules.specs.Refusals.{make_rows, new_rows, step_rows, run_rows}

@@ -8,7 +8,8 @@ use Prim.Native.Nat.{ℕ, ◌<◌, ◌≤◌}
 use native.Mathlib.Omega.{arith}
 use lib.Dec.{ltb, leb, eqb}
 use borrow.Author.Tests.{ltb-true, leb-true, eqb-true, eqb-false, ne_eqb}
-use Rattle.rules.specs.Choose.{if◌then◌else◌}
+use Rattle.std.specs.Prelude.{if◌then◌else◌}
+use Rattle.rules.specs.Choose.{choose◌then◌else◌}
 use Rattle.rules.specs.Table.{Row, ◌when◌, first, answer, numbered, rising, has, Given, LowestOf, or_else, through}
 
 pub and_both : (a b : Bool) → a && b ≡ true → (a ≡ true) × (b ≡ true)
@@ -40,7 +41,7 @@ exactly (j when b ∷ rows) u k =
         (b same again : Bool) → eqb j k ≡ same → has k rows ≡ again → 0 < j
         → ((first rows ≡ k) ↔ Given k rows)
         → ((if b then j else first rows) ≡ k)
-        ↔ (if same then (if again then (b ≡ true) ⊎ Given k rows else (b ≡ true)) else ((b ≡ false) × Given k rows))
+        ↔ (choose same then (choose again then (b ≡ true) ⊎ Given k rows else (b ≡ true)) else ((b ≡ false) × Given k rows))
     go true true true q h p later = (λ _. inl refl, λ _. eqb-true j k q)
     go true true false q h p later = (λ _. refl, λ _. eqb-true j k q)
     go true false again q h p later = (λ e. absurd (eqb-false j k q e), λ g. absurd (true≢false g.0))
