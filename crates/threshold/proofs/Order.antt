@@ -13,7 +13,7 @@ use lib.Ieee.{Float, nan, inf, fin, up, down, below, level, lt, eq, le, is_nan}
 use lib.Ieee.Fits.{down_pos}
 use lib.Ieee.Positive.{through}
 use lib.Ieee.Scale.{finite}
-use Rattle.rules.specs.Choose.{if◌then◌else◌}
+use Rattle.std.specs.Prelude.{if◌then◌else◌}
 use Rattle.threshold.specs.Threshold.{lesser, greater}
 
 -- what `le` says of two signed numbers
