@@ -11,7 +11,7 @@ use Rattle.sizing.specs.declared.Sizing.{Sizing}
 use Rattle.sizing.specs.Sizing.{size_rows, not_sized, sized, sizing_of}
 use Rattle.sizing.proofs.Counts.{enough, votes_enough, Sized, ranges}
 
--- N-as-Tm > D for confirmation, (V-1)·Tm ≥ D for votes, and every voter takes both: none refuses them with 1
+-- N·Tm > D for confirmation, (V-1)·Tm ≥ D for votes, and every voter takes both: none refuses them with 1
 pub record Serves (tm d : ℕ) (z : Sizing) : Type 0 where
   pub for_confirmation : d < z.need * tm
   pub for_votes : d ≤ (z.votes - 1) * tm
