@@ -8,7 +8,7 @@ use native.Mathlib.Omega.{arith}
 use lib.ListN.{length, take}
 use lib.Dec.{ltb}
 use borrow.Author.Tests.{ne_eqb}
-use Rattle.rules.specs.Choose.{if◌then◌else◌}
+use Rattle.std.specs.Prelude.{if◌then◌else◌}
 use Rattle.rules.specs.Table.{Row, ◌when◌, first, answer, numbered, has, Given, or_else}
 use Rattle.rules.specs.Refusals.{run_rows}
 use Rattle.rules.proofs.Readings.{Makes, Runs, run_exactly, run_0}

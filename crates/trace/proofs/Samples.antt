@@ -10,7 +10,7 @@ use lib.ListN.{length, get_or, drop, drop_of_length-le}
 use lib.Seq.{drop-cons}
 use lib.Dec.{ltb, leb-zero, leb-suc-suc}
 use borrow.Author.Tests.{ltb-true, ltb-false}
-use Rattle.rules.specs.Choose.{if◌then◌else◌}
+use Rattle.std.specs.Prelude.{if◌then◌else◌}
 use Rattle.rules.specs.Signals.{some_below}
 use Rattle.rules.proofs.Signals.{none_below, not_at}
 use Rattle.trace.specs.Samples.{first_where, somewhere, Smallest}

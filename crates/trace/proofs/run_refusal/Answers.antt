@@ -2,12 +2,8 @@
 use mathlib.Core.Path.{refl, sym, ◌∙◌}
 use Rattle.rules.specs.Table.{through, numbered}
 use Rattle.rules.proofs.Tables.{by_rows, stays}
-use Rattle.trace.proofs.run_refusal.Statement.{statement}
-use Rattle.trace.proofs.run_refusal.Tie as tie
+use Rattle.trace.proofs.run_refusal.Goals as goal
 
-returns : tie.Need-returns
+pub returns : goal.returns
 unfolding numbered through
 returns c = by_rows _ refl (sym (stays _ 6) ∙ (cc))
-
-pub run_refusal_spec : {M : Type 1} → statement M
-run_refusal_spec = tie.close (tie.spec (λ _ _. tt) (λ _ _. tt) (λ _ _. tt) (λ _ _. tt) (λ _ _. tt) (λ _ _. tt) (λ _ _. tt) returns)
