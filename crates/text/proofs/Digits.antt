@@ -9,7 +9,7 @@ use native.Mathlib.Omega.{arith}
 use lib.Dec.{ltb}
 use lib.ListN.{length, set, length-append}
 use borrow.Author.Tests.{lt-ltb, le-ltb}
-use Rattle.rules.specs.Choose.{if◌then◌else◌}
+use Rattle.std.specs.Prelude.{if◌then◌else◌}
 use Rattle.text.specs.Text.{bytes, glyph, digits, places_up_to, places, decimal, hex8, line}
 use Rattle.text.specs.Put.{laid}
 use Rattle.text.proofs.Laws.{laid_nothing, laid_last}

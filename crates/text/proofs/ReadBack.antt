@@ -8,7 +8,7 @@ use native.Mathlib.Nat.{div-lt_iff_lt-mul, div-div-eq-div-mul, div-add-mod', div
 use native.Mathlib.Omega.{arith}
 use borrow.Author.Tests.{ltb-true, ltb-false, lt-ltb, le-ltb}
 use lib.Dec.{ltb}
-use Rattle.rules.specs.Choose.{if◌then◌else◌}
+use Rattle.std.specs.Prelude.{if◌then◌else◌}
 use Rattle.text.specs.Text.{bytes, glyph, digits, places_up_to, places, decimal, hex8}
 use Rattle.text.proofs.Digits.{tenth, places_few}
 

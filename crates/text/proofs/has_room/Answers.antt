@@ -5,8 +5,7 @@ use Prim.Native.Nat.{ℕ, ◌+◌, ◌-◌, ◌≤◌, ◌<◌}
 use native.Mathlib.Omega.{arith}
 use lib.Dec.{leb}
 use borrow.Author.Tests.{leb-true, leb-false, le-leb, lt-leb}
-use Rattle.text.proofs.has_room.Statement.{statement}
-use Rattle.text.proofs.has_room.Tie as tie
+use Rattle.text.proofs.has_room.Goals as goal
 
 -- k places end within the buffer exactly when they are no more than are left
 left : (len at k : ℕ) → at ≤ len → leb k (len - at) ≡ leb (at + k) len
@@ -19,5 +18,8 @@ left len at k h = go (leb k (len - at)) refl where
 past : (len at k : ℕ) → len < at → false ≡ leb (at + k) len
 past len at k h = sym (lt-leb (at + k) len (omega arith))
 
-pub has_room_spec : {M : Type 1} → statement M
-has_room_spec = tie.close (tie.spec (λ c. past _ _ _ c.if1.true) (λ c. left _ _ _ c.if1.false))
+pub returns-then-at-len : goal.returns-then-at-len
+returns-then-at-len c = past _ _ _ c.if-at-len.true
+
+pub returns : goal.returns
+returns c = left _ _ _ c.if-at-len.false
