@@ -9,7 +9,7 @@ use lib.Dec.{eqb}
 use lib.ListN.{length, take}
 use lib.Seq.{get_or-take, length-take-le}
 use borrow.Author.Tests.{eqb-true, eqb-false, ne_eqb, le-ltb}
-use Rattle.rules.specs.Choose.{if◌then◌else◌}
+use Rattle.std.specs.Prelude.{if◌then◌else◌}
 use Rattle.rules.specs.Signals.{some_below}
 use Rattle.rules.specs.Table.{first}
 use Rattle.recording.specs.Recording.{field, header_of, column_at, bad_offset, head_rows, shape_rows, refused_at, read_of}

@@ -1,0 +1,21 @@
+-- `recording::samples::column_outside` meets its contract. The invariant: the OR so far is outside, or a sample to come is, exactly
+-- when some sample of the column is.
+use mathlib.Core.Path.{◌≡◌}
+use mathlib.Core.List.{List}
+use mathlib.Core.Bool.{Bool, ◌||◌}
+use Prim.Native.Nat.{ℕ, ◌-◌, ◌≤◌}
+use lib.ListN.{drop}
+use Rattle.rules.specs.Limits.{outside}
+use Rattle.trace.specs.Samples.{somewhere}
+use Rattle.recording.specs.declared.Header.{Header}
+use Rattle.recording.specs.Recording.{sample_at, numbers}
+use Rattle.recording.proofs.samples.column_outside.Given as goal
+
+abbrev pub judged : List ℕ → Header → ℕ → ℕ → Bool
+judged s h k i = outside h.n (sample_at s h.samples k i)
+
+abbrev pub invariant-loop-i : goal.invariant-loop-i
+invariant-loop-i l = (l.i ≤ l.h.samples) × (outside l.h.n l.union || somewhere (judged l.bytes l.h l.k) (drop l.i (numbers l.h)) ≡ somewhere (judged l.bytes l.h l.k) (numbers l.h))
+
+abbrev pub decreases-loop-i : goal.decreases-loop-i
+decreases-loop-i l = l.h.samples - l.i
