@@ -1,7 +1,6 @@
 -- `Confirm::step` meets its contract: where the one test finds nothing wrong the clauses, else the state as it came.
 use mathlib.Core.Path.{◌≡◌, refl, sym, ap, ◌∙◌}
 use mathlib.Core.Bool.{Bool, true, false, ◌||◌, or_assoc}
-use borrow.Author.Tests.{not-false, not-true}
 use Prim.Native.Nat.{ℕ, ◌-◌}
 use lib.Bits.{bit_or}
 use lib.Dec.{ltb}
@@ -12,8 +11,7 @@ use Rattle.rules.proofs.OneTest.{by_one_test}
 use Rattle.rules.proofs.Width.{outside_or}
 use Rattle.confirm.specs.declared.Confirm.{Confirm}
 use Rattle.confirm.specs.Confirm.{clauses, bad_state, not_taken, step_of}
-use Rattle.confirm.proofs.Confirm.step.Statement.{statement}
-use Rattle.confirm.proofs.Confirm.step.Tie as tie
+use Rattle.confirm.proofs.Confirm.step.Goals as goal
 
 -- the one test is the table's, and decides between the clauses and a refusal
 abbrev admitted : Confirm → ℕ → Bool
@@ -29,26 +27,20 @@ ways s x =
     rw (outside_or s.n s.input s.output) (sym (or_assoc (ltb (s.need - 1) s.count) (outside s.n s.input) (outside s.n s.output))) in
     by_one_test (bad_count s.need) (ltb (s.need - 1) s.count) s.n x (bit_or s.input s.output) refl refl spoilt (not_taken s) (clauses s x)
 
--- the arguments, as the one test saw them, and what it found
-abbrev asked : tie.After-admits → tie.Start
-asked c = c.before.before.before
+-- what the one test found
+found :
+    (s : Confirm) (x : ℕ) {counts result : Bool} → counts ≡ counted s.need s.count
+    → result ≡ admits counts s.n (bit_or x (bit_or s.input s.output)) → result ≡ admitted s x
+found s x e f = f ∙ ap (λ (k : Bool). admits k s.n (bit_or x (bit_or s.input s.output))) e
 
-found : (c : tie.After-admits) → let a = (asked c).args in c.admits.result ≡ admitted a.self a.input
-found c =
-    let a = (asked c).args in
-    c.admits.ensures ∙ ap (λ (k : Bool). admits k a.self.n (bit_or a.input (bit_or a.self.input a.self.output))) c.before.counted.ensures
+pub returns-then-refused : goal.returns-then-refused
+returns-then-refused c =
+    let a = c.args in
+    let one = found a.self a.input c.counted-counted.ensures c.admits-refused.ensures in
+    rw (c.step_number-number.ensures, c.bad_count.ensures) ((ways a.self a.input).1 (sym one ∙ c.if-refused.true))
 
-returns : tie.Need-returns
+pub returns : goal.returns
 returns c =
-    let tested = c.before.before.before in
-    let a = (asked tested).args in
-    rw (c.step-number.ensures, c.before.bad-count.ensures) ((ways a.self a.input).1 (sym (found tested) ∙ not-true _ c.before.before.if1.true))
-
-returns-2 : tie.Need-returns-2
-returns-2 c =
-    let tested = c.before.before in
-    let a = (asked tested).args in
-    c.clauses.ensures ∙ (ways a.self a.input).0 (sym (found tested) ∙ not-false _ c.before.if1.false)
-
-pub step_spec : {M : Type 1} → statement M
-step_spec = tie.close (tie.spec (λ _ _. tt) (λ _ _. tt) (λ _ _. tt) (λ _ _. tt) returns (λ _ _. tt) returns-2)
+    let a = c.args in
+    let one = found a.self a.input c.counted-counted.ensures c.admits-refused.ensures in
+    c.clauses.ensures ∙ (ways a.self a.input).0 (sym one ∙ c.if-refused.false)

@@ -1,0 +1,5 @@
+-- `Confirm::new` meets its contract.
+use Rattle.confirm.proofs.Confirm.new.Goals as goal
+
+pub returns : goal.returns
+returns c = rw (c.from_word.ensures, c.default_word.ensures)
