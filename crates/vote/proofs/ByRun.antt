@@ -7,7 +7,7 @@ use Prim.Native.Nat.{ℕ, zero, suc, ◌-◌, ◌<◌}
 use native.Mathlib.Omega.{arith}
 use lib.Dec.{ltb}
 use lib.ListN.{length, get_or, take}
-use Rattle.rules.specs.Choose.{if◌then◌else◌}
+use Rattle.std.specs.Prelude.{if◌then◌else◌}
 use Rattle.rules.proofs.Ranges.{same}
 use Rattle.rules.proofs.Readings.{run_makes}
 use Rattle.rules.proofs.Tables.{or_neither}
@@ -21,7 +21,6 @@ use Rattle.trace.proofs.Runs.{answer_done}
 use Rattle.trace.proofs.Samples.{nowhere}
 use Rattle.trace.proofs.Steps.{shown_at, column_shows}
 use Rattle.vote.specs.declared.Vote.{Vote}
-use Rattle.vote.specs.declared.VoteStep.{VoteStep}
 use Rattle.vote.specs.Alarms.{equal}
 use Rattle.vote.specs.Run.{plain, leaves, steps, shown_word, shown_mark, shown_which, answer_of, Ran}
 use Rattle.vote.specs.Vote.{fresh, clauses}
@@ -57,7 +56,7 @@ pub agreed_at :
 unfolding last_agreed
 agreed_at word [] j l e none = absurd (omega arith)
 agreed_at word (x ∷ xs) zero l e none = rw e (never_agreed x.0 xs (λ k m. none (suc k) (omega arith) (omega arith)))
-agreed_at word (x ∷ xs) (suc j) l e none = agreed_at _ xs j (omega arith) e (λ k m o. none (suc k) (omega arith) (omega arith))
+agreed_at word (x ∷ xs) (suc j) l e none = agreed_at (if equal x then x.0 else word) xs j (omega arith) e (λ k m o. none (suc k) (omega arith) (omega arith))
 
 -- a run: the byte at sample k is of the word that the samples before it agreed on last
 pub steps_which :

@@ -9,7 +9,7 @@ use lib.Dec.{eqb}
 use lib.ListN.{length, get_or, take, drop, set, length-set, length-append, length-drop, length-map, drop_of_length-le, take-append-drop}
 use lib.Seq.{drop-cons, drop-drop, drop-set-lt, drop_at, take_all, take_at, length-take-le}
 use borrow.Author.Tests.{eq-eqb}
-use Rattle.rules.specs.Choose.{if◌then◌else◌}
+use Rattle.std.specs.Prelude.{if◌then◌else◌}
 use Rattle.rules.proofs.Ranges.{same}
 use Rattle.rules.proofs.Tables.{or_each}
 use Rattle.trace.specs.Answers.{apart_pair}
