@@ -12,7 +12,7 @@ use lib.Dec.{eqb}
 use lib.ListN.{length, get_or, take, drop, length-take, length-drop, length-map, get_or-append}
 use lib.Seq.{drop-cons, get_or-append-add, get_or-drop, get_or-take}
 use borrow.Author.Tests.{eq-eqb, eqb-true}
-use Rattle.rules.specs.Choose.{if◌then◌else◌}
+use Rattle.std.specs.Prelude.{if◌then◌else◌}
 use Rattle.trace.specs.Trace.{trace, left}
 use Rattle.trace.proofs.Steps.{trace_length}
 use Rattle.vote.specs.Alarms.{equal, Disagreeing}

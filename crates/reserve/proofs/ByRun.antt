@@ -2,11 +2,11 @@
 -- before agreed on last; told by hand, of the word that stands written beside it; and a run of width 1 never writes "neither".
 use mathlib.Core.Path.{◌≡◌, refl, sym, ap, ◌∙◌}
 use mathlib.Core.List.{List, [], ◌∷◌, map, zip, zip_with}
-use mathlib.Core.Bool.{Bool, true, false}
+use mathlib.Core.Bool.{false}
 use Prim.Native.Nat.{ℕ, zero, suc, ◌<◌}
 use native.Mathlib.Omega.{arith}
 use lib.ListN.{length, get_or, take}
-use Rattle.rules.specs.Choose.{if◌then◌else◌}
+use Rattle.std.specs.Prelude.{if◌then◌else◌}
 use Rattle.rules.proofs.Ranges.{same}
 use Rattle.rules.proofs.Readings.{run_makes}
 use Rattle.rules.proofs.Tables.{or_each}

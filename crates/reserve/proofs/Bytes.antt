@@ -1,7 +1,7 @@
 -- T-09, which unit of the pair that was voted on still shows the last agreed word: of every state and sample, of the public step, and at the
 -- hand-over; and that "neither" cannot occur for single signals. The byte is the vote's own.
-use mathlib.Core.Path.{◌≡◌, refl}
-use mathlib.Core.Bool.{Bool, true, false, ◌||◌}
+use mathlib.Core.Path.{◌≡◌}
+use mathlib.Core.Bool.{true, false, ◌||◌}
 use Prim.Native.Nat.{ℕ, ◌-◌}
 use native.Mathlib.Omega.{arith}
 use lib.Dec.{ltb}

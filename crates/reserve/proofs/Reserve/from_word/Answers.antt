@@ -3,7 +3,7 @@ use mathlib.Core.Path.{◌≡◌, refl}
 use mathlib.Core.Bool.{Bool, true, false}
 use Prim.Native.Nat.{ℕ}
 use lib.Dec.{eqb}
-use Rattle.rules.specs.Choose.{if◌then◌else◌}
+use Rattle.std.specs.Prelude.{if◌then◌else◌}
 use Rattle.rules.specs.Limits.{bad_count}
 use Rattle.rules.specs.Table.{first}
 use Rattle.rules.specs.Refusals.{make_rows}
@@ -11,8 +11,7 @@ use Rattle.vote.specs.Vote as vote
 use Rattle.reserve.specs.declared.ReserveMade.{ReserveMade}
 use Rattle.reserve.specs.declared.Phase.TheVariants.{Primary}
 use Rattle.reserve.specs.Reserve.{made, not_made, made_of}
-use Rattle.reserve.proofs.Reserve.from_word.Statement.{statement}
-use Rattle.reserve.proofs.Reserve.from_word.Tie as tie
+use Rattle.reserve.proofs.Reserve.from_word.Goals as goal
 
 over : (n need word : ℕ) → let m = vote.made_of n need word in ◌≡◌ {A = ReserveMade} (record { state = record { phase = Primary; vote = m.state }; refusal = m.refusal }) (made_of n need word)
 unfolding made_of vote.made_of
@@ -23,5 +22,5 @@ over n need word = go (first (make_rows (bad_count need) n word)) (eqb (first (m
   go k true = refl
   go k false = refl
 
-pub from_word_spec : {M : Type 1} → statement M
-from_word_spec = tie.close (tie.spec (λ _ _. tt) (λ c. rw c.before.from-word.ensures (over _ _ _)))
+pub returns : goal.returns
+returns c = rw c.from_word-made.ensures (over _ _ _)

@@ -1,9 +1,0 @@
--- `Reserve::new` meets its contract.
-use Rattle.reserve.proofs.Reserve.new.Statement.{statement}
-use Rattle.reserve.proofs.Reserve.new.Tie as tie
-
-returns : tie.Need-returns
-returns c = rw (c.from-word.ensures, c.before.default-word.ensures)
-
-pub new_spec : {M : Type 1} → statement M
-new_spec = tie.close (tie.spec (λ _ _. tt) (λ _ _. tt) returns)
