@@ -16,7 +16,7 @@ gaps w h (suc m) k l =
     let on : There w (suc (k + m)) = rw add-suc at l in
     rw (add-suc, suc-mul) (omega (arith, h (k + m) on, gaps w h m k (omega arith)))
 
--- so N of them last D, where N-as-Tm reaches it
+-- so N of them last D, where N·Tm reaches it
 outlasting : (w : Watch) → w.d ≤ w.need * w.tm → GapLeast w → (k : ℕ) → There w (k + w.need) → w.taken k + w.d ≤ w.taken (k + w.need)
 outlasting w e h k l = omega (arith, gaps w h w.need k l)
 
@@ -27,7 +27,7 @@ factors a b d l = (
   dite (dec_lt 0 b) (λ h. h) (λ none. let z : b ≡ 0 = omega arith in let nothing : a * b ≡ 0 = rw z (mul-zero a) in absurd (omega arith)),
 )
 
--- in demand 3's own words: N at least 1, N-as-Tm that only reaches D, and a quiet gap that is only reached
+-- in demand 3's own words: N at least 1, N·Tm that only reaches D, and a quiet gap that is only reached
 pub enough_reached :
     (w : Watch) → 1 ≤ w.need → w.d ≤ w.need * w.tm → Fits w → GapLeast w → GapMost w → Formed w → Late w → Forward w → Rests w → QuietReached w
     → Sufficient w (w.taken 0)

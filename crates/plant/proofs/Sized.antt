@@ -1,4 +1,4 @@
--- With the numbers of `Sizing::of` the premise N-as-Tm > D holds, and the bounds are the ones that it returned.
+-- With the numbers of `Sizing::of` the premise N·Tm > D holds, and the bounds are the ones that it returned.
 use mathlib.Core.Path.{◌≡◌, sym, ap, ◌∙◌}
 use Prim.Native.Nat.{ℕ}
 use lib.ListN.{get_or}
