@@ -13,7 +13,7 @@ use lib.ListN.{length, get_or, drop, replicate}
 use lib.Pow.{pow_pos}
 use lib.Seq.{ext_get_or}
 use Rattle.rules.specs.Bits.{bit}
-use Rattle.rules.specs.Choose.{if◌then◌else◌}
+use Rattle.std.specs.Prelude.{if◌then◌else◌}
 use Rattle.rules.specs.Limits.{outside}
 use Rattle.rules.specs.Signals.{as_word, as_list}
 use Rattle.rules.proofs.Signals.{bit_small, word_none, word_bit, word_small, word_ends, place_below, place_above, places_length}

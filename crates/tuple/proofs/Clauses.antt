@@ -4,7 +4,7 @@ use mathlib.Core.Bool.{Bool, true, false, not}
 use Prim.Native.Nat.{ℕ, ◌≤◌}
 use native.Mathlib.Omega.{arith}
 use lib.Dec.{eqb}
-use Rattle.rules.specs.Choose.{if◌then◌else◌}
+use Rattle.std.specs.Prelude.{if◌then◌else◌}
 use Rattle.confirm.specs.Confirm as confirm
 use Rattle.confirm.specs.Answers as confirm_answers
 use Rattle.confirm.specs.declared.ConfirmAnswer.{ConfirmAnswer}

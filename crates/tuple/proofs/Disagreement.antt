@@ -13,7 +13,7 @@ use lib.ListN.{get_or}
 use lib.Pow.{pow_mono}
 use borrow.Author.Tests.{eqb-true, eqb-false}
 use Rattle.rules.specs.Bits.{bit}
-use Rattle.rules.specs.Choose.{if◌then◌else◌}
+use Rattle.std.specs.Prelude.{if◌then◌else◌}
 use Rattle.rules.specs.Limits.{outside}
 use Rattle.rules.specs.Signals.{as_word}
 use Rattle.rules.proofs.Bits.{and_bit, or_bit, xor_exactly, not_bit}

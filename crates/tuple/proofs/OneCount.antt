@@ -1,13 +1,13 @@
 -- T-02 and T-09: with equal counts, and T-09's word left out, the tuple vote is the one that it was before them, with one count: its
 -- constructors, its steps and its runs.
-use mathlib.Core.Path.{◌≡◌, refl, sym, ap, subst, ◌∙◌}
+use mathlib.Core.Path.{◌≡◌, refl, sym, ap, subst}
 use mathlib.Core.List.{List, map, zip}
 use mathlib.Core.Bool.{Bool, true, false, not, ◌||◌, or-false}
 use Prim.Native.Nat.{ℕ}
 use lib.Dec.{eqb}
 use lib.ListN.{length}
 use borrow.Author.Tests.{eq-eqb}
-use Rattle.rules.specs.Choose.{if◌then◌else◌}
+use Rattle.std.specs.Prelude.{if◌then◌else◌}
 use Rattle.rules.specs.Limits.{bad_count}
 use Rattle.rules.specs.Table.{first, answer}
 use Rattle.rules.specs.Refusals.{make_rows}

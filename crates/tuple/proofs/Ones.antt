@@ -12,7 +12,7 @@ use lib.ListN.{get_or}
 use lib.Pow.{pow-add}
 use borrow.Author.Tests.{ne_eqb}
 use Rattle.rules.specs.Bits.{bit}
-use Rattle.rules.specs.Choose.{if◌then◌else◌}
+use Rattle.std.specs.Prelude.{if◌then◌else◌}
 use Rattle.rules.specs.Signals.{as_word, as_list}
 use Rattle.rules.proofs.Signals.{word_small, word_more, list_at}
 use Rattle.tuple.specs.Disagreement.{count_by, alarm_by}

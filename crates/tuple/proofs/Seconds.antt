@@ -1,7 +1,7 @@
 -- T-09: the word of a step that tells, for each signal, whether the second unit shows the agreed bit. Bit i is what the plain vote of signal i
 -- says; it is a one exactly where the signal differs and the second unit shows the agreed bit; there is none at n or above; and where the
 -- signal differs and there is none, the first unit shows it.
-use mathlib.Core.Path.{◌≡◌, refl, sym, ◌∙◌}
+use mathlib.Core.Path.{◌≡◌, refl, sym}
 use mathlib.Core.Logic.Iff
 use mathlib.Core.Logic.{◌↔◌, inl, inr}
 use mathlib.Core.Bool.{Bool, true, false}

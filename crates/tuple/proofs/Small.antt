@@ -6,7 +6,7 @@ use Prim.Native.Nat.{ℕ, zero, suc, ◌<◌, ◌^◌}
 use lib.Dec.{lit<}
 use lib.ListN.{get_or, replicate}
 use Rattle.rules.specs.Bits.{bit}
-use Rattle.rules.specs.Choose.{if◌then◌else◌}
+use Rattle.std.specs.Prelude.{if◌then◌else◌}
 use Rattle.rules.specs.Signals.{as_word}
 use Rattle.rules.proofs.Signals.{bit_small, word_small}
 use Rattle.vote.specs.declared.VoteAnswer.{VoteAnswer}

@@ -11,7 +11,7 @@ use lib.Dec.{ltb, eqb, lit<}
 use lib.ListN.{get_or}
 use borrow.Author.Tests.{le-ltb, ltb-false, eq-eqb, eqb-true, not-false}
 use Rattle.rules.specs.Bits.{Within}
-use Rattle.rules.specs.Choose.{if◌then◌else◌}
+use Rattle.std.specs.Prelude.{if◌then◌else◌}
 use Rattle.rules.specs.Limits.{outside}
 use Rattle.rules.specs.Signals.{as_word}
 use Rattle.rules.proofs.Signals.{word_small, word_bit, word_zero, none_below, not_at}

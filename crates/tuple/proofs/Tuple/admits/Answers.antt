@@ -1,6 +1,6 @@
--- `Tuple::admits` meets its contract: the one test, with the voters' count as one more for row 1 and the places as one more reason
--- for row 7.
-use mathlib.Core.Path.{◌≡◌, refl, sym, ap, ap₂, ◌∙◌}
+-- `Tuple::admits` meets its contract: the one test, with the voters' count as one more for row 1 and the places as one
+-- more reason for row 7.
+use mathlib.Core.Path.{◌≡◌, refl, sym, ap₂, ◌∙◌}
 use mathlib.Core.Bool.{Bool, true, false, not, ◌&&◌, ◌||◌, or-true, or_assoc}
 use Prim.Native.Nat.{ℕ, ◌-◌}
 use lib.Bits.{bit_or}
@@ -15,11 +15,10 @@ use Rattle.confirm.specs.declared.Confirm.{Confirm}
 use Rattle.tuple.specs.declared.Tuple.{Tuple}
 use Rattle.tuple.specs.Tuple.{width, vote_need, miscounted, bad_state, rows_of}
 use Rattle.tuple.proofs.TwoWords.{beyond, by_two_words}
-use Rattle.tuple.proofs.Tuple.admits.Statement.{statement}
-use Rattle.tuple.proofs.Tuple.admits.Tie as tie
+use Rattle.tuple.proofs.Tuple.admits.Goals as goal
 
--- the reasons for row 7 in the order of the definition: p the places that count above N-1, l the count, c the places that count, g, x
--- and y the agreed word, the input and the output
+-- the reasons for row 7 in the order of the definition: p the places that count above N-1, l the count, c the places
+-- that count, g, x and y the agreed word, the input and the output
 in_order : (p l c g x y : Bool) → (p || l) || (c || (g || (x || y))) ≡ ((p || c) || g) || ((l || x) || y)
 in_order true l c g x y = refl
 in_order false l true g x y = or-true l
@@ -51,18 +50,13 @@ module _ (s : Tuple) (a b : ℕ) where
       let late = ltb (f.need - 1) f.count in
       admits_exactly (miscounted s) (some_above || late) f.n (bit_or a b) stored (both_counted (bad_count (vote_need s)) some_above (bad_count f.need) late) (outside_or f.n a b) spoilt
 
-returns : tie.Need-returns
+pub returns : goal.returns
 returns c =
-    let asked = c.before.before.before in
-    let looked = asked.before.before.before.before in
-    let x = looked.before.before.before.args in
+    let x = c.args in
     let s = x.self in
     let f = s.confirm in
-    let places = looked.places_of.ensures in
+    let places = c.places_of-places.ensures in
     c.admits.ensures
     ∙ ap₂ (λ (k : Bool) (w : ℕ). admits k f.n (bit_or (bit_or x.a x.b) (bit_or w (bit_or s.agreed (bit_or f.input f.output)))))
-    (ap₂ ◌&&◌ (ap₂ (λ (m : Bool) (w : ℕ). not (m || not (eqb w 0))) asked.bad-count.ensures places.1) c.before.counted.ensures) places.0
+    (ap₂ ◌&&◌ (ap₂ (λ (m : Bool) (w : ℕ). not (m || not (eqb w 0))) c.bad_count.ensures places.over_value) c.counted.ensures) places.counting_value
     ∙ tested s x.a x.b
-
-pub admits_spec : {M : Type 1} → statement M
-admits_spec = tie.close (tie.spec (λ _ _. tt) (λ _ _. tt) (λ _ _. tt) (λ _ _. tt) returns)

@@ -1,7 +1,8 @@
 -- `Tuple::voters` meets its contract: the voters step with their own N, on a state and a sample that were tested.
-use mathlib.Core.Path.{ap, ◌∙◌}
+use mathlib.Core.Path.{◌≡◌, ap, ◌∙◌}
 use Prim.Native.Nat.{ℕ}
 use borrow.Author.Rules.{rules}
+use lib.ListN.{length}
 use Rattle.rules.specs.Limits.{outside}
 use Rattle.rules.proofs.Tables.{or_neither}
 use Rattle.tuple.specs.Disagreement.{disagreement, voters_by}
@@ -11,26 +12,21 @@ use Rattle.tuple.proofs.Disagreement.{disagreement_inside, look}
 use Rattle.tuple.proofs.Rows.{none_given, wide}
 use Rattle.tuple.proofs.Sound.{above_zero}
 use Rattle.tuple.proofs.Stepwise.{sound}
-use Rattle.tuple.proofs.Tuple.voters.Statement.{statement}
-use Rattle.tuple.proofs.Tuple.voters.Tie as tie
+use Rattle.tuple.proofs.Tuple.voters.Goals as goal
 
-step-voters-requires : tie.Need-step-voters-requires
-step-voters-requires c κs = search rules
+pub step_voters-voted-requires : goal.step_voters-voted-requires
+step_voters-voted-requires c = search rules
 
-returns : tie.Need-returns
+pub returns : goal.returns
 returns c =
-    let asked = c.before.before.before in
-    let x = asked.before.args in
+    let x = c.args in
     let s = x.self in
-    let none = asked.before.requires in
+    let none = c.requires in
     let n = width s in
     let inside = or_neither (outside n x.a) (outside n x.b) ((none_given s x.a x.b).0 none).sample_in in
-    let long = step-voters-requires c.before c.step-voters.lifetimes in
-    c.step-voters.ensures
-    ∙ ap (λ (d : ℕ). voters_by 32 (vote_need s) s.agreed s.counts x.a d) (asked.disagreement.ensures n inside.0 inside.1)
+    let long : length s.counts ≡ 32 = search rules in
+    c.step_voters-voted.ensures
+    ∙ ap (λ (d : ℕ). voters_by 32 (vote_need s) s.agreed s.counts x.a d) (c.disagreement-disagreeing.ensures n inside.0 inside.1)
     ∙ all_places n (vote_need s) s.agreed s.counts x.a (wide s x.a x.b none) long (above_zero n s (sound s x.a x.b none)) inside.0
     (disagreement n x.a x.b) (disagreement_inside n x.a x.b)
     ∙ look n (vote_need s) s.agreed s.counts x.a x.b
-
-pub voters_spec : {M : Type 1} → statement M
-voters_spec = tie.close (tie.spec (λ _ _. tt) step-voters-requires returns)

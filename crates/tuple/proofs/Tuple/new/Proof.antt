@@ -1,9 +1,0 @@
--- `Tuple::new` meets its contract.
-use Rattle.tuple.proofs.Tuple.new.Statement.{statement}
-use Rattle.tuple.proofs.Tuple.new.Tie as tie
-
-returns : tie.Need-returns
-returns c = rw (c.from-word.ensures, c.before.default-word.ensures)
-
-pub new_spec : {M : Type 1} → statement M
-new_spec = tie.close (tie.spec (λ _ _. tt) (λ _ _. tt) returns)
