@@ -8,7 +8,7 @@ use native.Mathlib.Omega.{arith}
 use lib.Dec.{ltb, eqb}
 use lib.ListN.{length, get_or}
 use borrow.Author.Tests.{ne_eqb}
-use Rattle.rules.specs.Choose.{if◌then◌else◌}
+use Rattle.std.specs.Prelude.{if◌then◌else◌}
 use Rattle.trace.specs.declared.RunAnswer.TheVariants.{Done, Refused}
 use Rattle.recording.specs.Recording.{header_of, read_of}
 use Rattle.text.specs.Text.{bytes, glyph, digits, line}

@@ -10,7 +10,7 @@ use lib.Dec.{eqb}
 use lib.ListN.{length, get_or, take, drop, length-append}
 use lib.Seq.{take_at, drop_at, ext_get_or}
 use borrow.Author.Tests.{eq-eqb}
-use Rattle.rules.specs.Choose.{if◌then◌else◌}
+use Rattle.std.specs.Prelude.{if◌then◌else◌}
 use Rattle.text.specs.Text.{bytes, places, decimal, hex8, line}
 use Rattle.text.proofs.ReadBack.{decimal_inj, hex_inj}
 use Rattle.text.proofs.Digits.{line_length}

@@ -5,7 +5,7 @@ use mathlib.Core.List.{List, map, zip}
 use Prim.Native.Nat.{ℕ}
 use lib.Dec.{eqb}
 use lib.ListN.{length, length-map}
-use Rattle.rules.specs.Choose.{if◌then◌else◌}
+use Rattle.std.specs.Prelude.{if◌then◌else◌}
 use Rattle.trace.proofs.Steps.{trace_length}
 use Rattle.trace.proofs.Columns.{zip_length, four_length}
 use Rattle.confirm.specs.Confirm as confirm
