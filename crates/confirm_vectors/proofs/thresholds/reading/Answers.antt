@@ -5,10 +5,8 @@ use Prim.Native.Nat.{ℕ, ◌%◌, ◌/◌, ◌≤◌}
 use native.Mathlib.Omega.{arith}
 use lib.Dec.{T, eqb}
 use lib.Ieee.{binary64, nan_bits}
-use borrow.Author.Rules.{rules}
 use borrow.Author.Tests.{eqb-true, eqb-false}
-use Rattle.confirm_vectors.proofs.thresholds.reading.Statement.{statement}
-use Rattle.confirm_vectors.proofs.thresholds.reading.Tie as tie
+use Rattle.confirm_vectors.proofs.thresholds.reading.Goals as goal
 
 number : (b : ℕ) → b % 9223372036854775808 ≤ 9218868437227405312 → T (not (nan_bits binary64 b))
 unfolding nan_bits
@@ -18,5 +16,5 @@ number b h = go (eqb (b % 9223372036854775808 / 4503599627370496) 2047) (eqb (b 
   go true true x y = tt
   go true false x y = absurd (eqb-false (b % 4503599627370496) 0 y (omega (arith, eqb-true (b % 9223372036854775808 / 4503599627370496) 2047 x)))
 
-pub reading_spec : {M : Type 1} → statement M
-reading_spec = tie.close (tie.spec (λ _ _. tt) (λ c. search rules) (λ c. number _ c.if1.false) (λ c. search rules))
+pub float_from_bits-result : goal.float_from_bits-result
+float_from_bits-result c = number _ c.if-bits-gt-INFINITE.false

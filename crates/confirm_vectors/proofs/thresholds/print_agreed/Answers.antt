@@ -3,9 +3,7 @@ use mathlib.Core.Path.{◌≡◌}
 use mathlib.Core.Bool.{true, not, false≢true}
 use lib.Dec.{T}
 use lib.Ieee.{Float, nan, inf, fin, eq, is_nan}
-use borrow.Author.Rules.{rules}
-use Rattle.confirm_vectors.proofs.thresholds.print_agreed.Statement.{statement}
-use Rattle.confirm_vectors.proofs.thresholds.print_agreed.Tie as tie
+use Rattle.confirm_vectors.proofs.thresholds.print_agreed.Goals as goal
 
 number : (x : Float) → eq x x ≡ true → T (not (is_nan x))
 unfolding eq is_nan
@@ -13,5 +11,5 @@ number nan e = absurd (false≢true e)
 number (inf s) e = tt
 number (fin s m d) e = tt
 
-pub print_agreed_spec : {M : Type 1} → statement M
-print_agreed_spec = tie.close (tie.spec (λ c. number c.before.args.m c.if1.true) (λ _ _. tt) (λ c. search rules) (λ c. search rules))
+pub float_to_bits-m : goal.float_to_bits-m
+float_to_bits-m c = number c.args.m c.if-m.true
