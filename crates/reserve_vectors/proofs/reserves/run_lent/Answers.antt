@@ -1,0 +1,13 @@
+-- `reserves::run_lent` lends as many places as each slice has at most.
+use lib.ListN.{length-take}
+use native.Mathlib.Omega.{arith}
+use Rattle.reserve_vectors.proofs.reserves.run_lent.Goals as goal
+
+pub slice_bounds-run_on-end-2 : goal.slice_bounds-run_on-end-2
+slice_bounds-run_on-end-2 c = simp length-take (omega arith)
+
+pub slice_bounds-run_on-end-4 : goal.slice_bounds-run_on-end-4
+slice_bounds-run_on-end-4 c = simp length-take (omega arith)
+
+pub slice_bounds-run_on-end-6 : goal.slice_bounds-run_on-end-6
+slice_bounds-run_on-end-6 c = simp length-take (omega arith)
