@@ -1,0 +1,5 @@
+-- `scorve_confirm_from_word` meets its contract.
+use Rattle.scorvemaglio.proofs.confirms.scorve_confirm_from_word.Goals as goal
+
+pub returns : goal.returns
+returns c = rw (← c.from_word.ensures) c.put_made.ensures

@@ -1,0 +1,5 @@
+-- `scorve_confirm_new` meets its contract.
+use Rattle.scorvemaglio.proofs.confirms.scorve_confirm_new.Goals as goal
+
+pub returns : goal.returns
+returns c = rw (← c.new.ensures) c.put_made.ensures

@@ -1,6 +1,0 @@
--- `scorve_confirm_new` meets its contract.
-use Rattle.scorvemaglio.proofs.confirms.scorve_confirm_new.Statement.{statement}
-use Rattle.scorvemaglio.proofs.confirms.scorve_confirm_new.Tie as tie
-
-pub scorve_confirm_new_spec : {M : Type 1} → statement M
-scorve_confirm_new_spec = tie.close (tie.spec (λ _ _. tt) (λ _ _. tt) (λ c. rw (← c.before.new.ensures) c.put-made.ensures))

@@ -1,0 +1,5 @@
+-- `scorve_confirm_step` meets its contract.
+use Rattle.scorvemaglio.proofs.confirms.scorve_confirm_step.Goals as goal
+
+pub returns : goal.returns
+returns c = rw (← c.confirm_of-s.ensures, ← c.step.ensures) c.put_step.ensures

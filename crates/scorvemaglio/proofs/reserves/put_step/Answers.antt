@@ -1,0 +1,5 @@
+-- `put_step` meets its contract, for reserve.
+use Rattle.scorvemaglio.proofs.reserves.put_step.Goals as goal
+
+pub returns : goal.returns
+returns c = record { state_after = c.reserve_numbers.ensures; answer_after = rw (c.which-which.ensures, c.mark-mark.ensures) }

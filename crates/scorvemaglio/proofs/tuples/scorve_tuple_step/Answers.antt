@@ -1,0 +1,5 @@
+-- `scorve_tuple_step` meets its contract.
+use Rattle.scorvemaglio.proofs.tuples.scorve_tuple_step.Goals as goal
+
+pub returns : goal.returns
+returns c = rw (← c.tuple_of-s.ensures, ← c.step.ensures.value) c.put_step.ensures

@@ -1,6 +1,0 @@
--- `scorve_vote_from_word` meets its contract.
-use Rattle.scorvemaglio.proofs.votes.scorve_vote_from_word.Statement.{statement}
-use Rattle.scorvemaglio.proofs.votes.scorve_vote_from_word.Tie as tie
-
-pub scorve_vote_from_word_spec : {M : Type 1} → statement M
-scorve_vote_from_word_spec = tie.close (tie.spec (λ _ _. tt) (λ _ _. tt) (λ c. rw (← c.before.from-word.ensures) c.put-made.ensures))

@@ -1,0 +1,5 @@
+-- `scorve_vote_step` meets its contract.
+use Rattle.scorvemaglio.proofs.votes.scorve_vote_step.Goals as goal
+
+pub returns : goal.returns
+returns c = rw (← c.vote_of-s.ensures, ← c.step.ensures.value) c.put_step.ensures
