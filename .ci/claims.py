@@ -19,6 +19,12 @@ def form(text):
             yield 'line %d names a path of a machine' % number
 
 
+def port(text):
+    """The page begins with the three commits that it tells of; the last may be none."""
+    if not re.match(r'[0-9a-f]{40}\n[0-9a-f]{40}\n(?:[0-9a-f]{40}|none)\n\n', text):
+        yield 'does not begin with three commits'
+
+
 def answers(text, project):
     """A wrong answer stands in its room's section, if there is one, or with its room's name anywhere."""
     parts = list(sections(text))
@@ -92,16 +98,17 @@ def reading(text, top):
         if path.name != 'Lib.antt' and '`%s`' % name not in text:
             yield 'does not name %s' % name
     for path in [*crates.glob('*/specs/*.antt'), *crates.glob('*/src/*.rt')]:
-        if re.search(r'^(?:ghost )?use \S*proofs\.', path.read_text(), re.M):
+        if re.search(r'^ *(?:(?:pub|ghost|unfoldable) )*use \S*\bproofs\.', path.read_text(), re.M):
             yield 'says that contracts and definitions cite no proof, and %s does' % path.relative_to(crates)
     for name, lines in rows(text):
         if (crates / name).exists() and abs(len((crates / name).read_text().splitlines()) - lines) > 9:
             yield 'says that %s has %d lines' % (name, lines)
     before = set()
     for name, _ in rows(re.split(r'(?m)^## ', text)[2]):
-        uses = r'^use Rattle·(\w+?)(?:·specs)?\.specs\.(?!declared)(\w+)'
+        # not what rattle makes of the code, nor the kit's words
+        uses = r'^(?:(?:pub|unfoldable) )*use Rattle\.(\w+)\.specs\.(?!declared\b|contracts\b)(\w+)'
         for room, file in re.findall(uses, (crates / name).read_text(), re.M):
             used = '%s/specs/%s.antt' % (room, file)
-            if used not in before:
+            if used not in before and (crates / room).is_dir():
                 yield 'has %s before %s, which it uses' % (name, used)
         before.add(name)

@@ -1,6 +1,7 @@
 """What is defined where in the project, for .ci/test-docs. A name counts where it is declared, and not where it is used:
   .antt     `name :` at the start of a declaration, a field, a constructor; `record Name`, `data Name`
-  .rt .rs   fn and its parameters, struct, enum, const, mod and type; the fields of a struct, the variants of an enum
+  .rt .rs   fn and its parameters, struct, enum, const, mod and type; the fields of a struct, the variants of an enum; the
+            labels of clauses, as in `ensures label { .. }`
   .c .h     functions, macros, structs, enums and their fields; in include/ all that stands outside comments
   .py       def, class, and what is assigned at the left margin
   scripts   functions, and variables that are assigned
@@ -11,13 +12,16 @@ import pathlib
 import re
 
 ROOM_FILES = ('.antt', '.rt')
+ROOM_PARTS = ('src', 'specs', 'proofs')
 OTHER_FOLDERS = ('include', 'tests', 'bench', 'examples', 'second', '.ci', 'samples')
 NAME = r"[^\s(){}:;,.`\"|]+"
 
 
 def antt_names(text):
-    found = set(re.findall(r'^ *(?:pub )?(?:record|data) (%s)' % NAME, text, re.M))
-    for names in re.findall(r'^ *(?:(?:abbrev|unfoldable|pub) )*(%s(?: %s)*) *:(?= |$)' % (NAME, NAME), text, re.M):
+    text = re.sub(r'(?<!\S)--.*', '', text)
+    found = set(re.findall(r'^ *(?:(?:abbrev|unfoldable|pub) )*(?:record|data) (%s)' % NAME, text, re.M))
+    declared = r'^ *(?:(?:abbrev|unfoldable|pub) )*(%s(?: %s)*)(?: \{[^{}\n]*\})* *:(?= |$)' % (NAME, NAME)
+    for names in re.findall(declared, text, re.M):
         names = names.split()
         if names[0] not in ('let', 'in', '--', 'module', 'record', 'data', '→', 'λ'):
             found.update(names)
@@ -32,6 +36,7 @@ def blocks(words, text):
 def rust_names(text):
     text = re.sub(r'//.*', '', text)
     found = set(re.findall(r'\b(?:fn|struct|enum|const|mod|type) (\w+)', text))
+    found.update(re.findall(r'^\s*(?:requires|ensures)\*? (\w+) \{', text, re.M))
     for body in blocks('struct', text) + blocks('enum', text):
         found.update(re.findall(r'(\w+)\s*:', body))
         found.update(re.findall(r'^\s*(\w+)\s*(?=[,({]|$)', body, re.M))
@@ -111,7 +116,7 @@ class Project:
         self.parameters[room] = collections.defaultdict(list)
         self.answers[room] = [a for edit in sorted(folder.glob('must-fail/*.edit')) for a in wrong_answers(edit)]
         for path in folder.rglob('*'):
-            if path.suffix in ROOM_FILES and path.parent.name != 'must-fail':
+            if path.suffix in ROOM_FILES and path.relative_to(folder).parts[0] in ROOM_PARTS:
                 self.files[path] = names_in(path)
                 names |= self.files[path] | {path.stem, path.name}
             if path.suffix == '.rt':
@@ -129,6 +134,6 @@ class Project:
             self.anywhere |= {path.name} | (names_in(path) if path.is_file() else set())
 
     def kit(self):
-        """The rooms of the kit that crates.txt names: io, check, libc."""
+        """The rooms of the kit that crates.txt names: io, check."""
         text = re.sub(r'#.*', '', (self.top / 'crates.txt').read_text())
         self.anywhere |= set(re.findall(r'\w+', text))

@@ -4,8 +4,8 @@ import re
 STATEMENTS = 'docs/STATEMENTS.md'
 VOTERS = ['confirm', 'vote', 'tuple', 'reserve']
 # words of the kit and its language, the letters of a listing, what a program reads and writes, the room that was parted
-OUTSIDE = {'rt', 'requires', 'ensures', 'Learnt', 'Reads', 'tt', 'zip', 'getD', 'C', 'A', 'H', 'N', 'v'}
-OUTSIDE |= {'--', 'stdin', 'stdout', 'vectors', 'scorve_', 'memset', '01-scope.md'}
+OUTSIDE = {'rt', 'requires', 'ensures', 'result', 'Learnt', 'Reads', 'tt', 'zip', 'get_or', 'C', 'A', 'H', 'N', 'v'}
+OUTSIDE |= {'--', 'x86_64', 'stdin', 'stdout', 'vectors', 'scorve_', 'memset', '01-scope.md'}
 TOKEN = re.compile(r'`([^`\n]+)`')
 LIST = r'((?:`[^`]+`(?:, and |, | and ))*`[^`]+`)'
 QUALIFIED = re.compile(LIST + r',? (?:\(|of |in )(?:' + LIST + r"|each voter(?!'))")
@@ -77,9 +77,10 @@ class Names:
             yield from ((name, 'Unique.antt', unique) for name in TOKEN.findall(match[1]))
 
     def is_path(self, document, path):
-        """From the top, in a crate, beside the document, or a wrong answer. What is built or installed is not there yet."""
+        """From the top, in a crate, beside the document, or a wrong answer. What is made or installed is not there yet."""
         places = [self.top, self.top / 'crates', (self.top / document).parent, *(self.top / 'crates').iterdir()]
-        if path.startswith(('target/', 'PREFIX/', '/')) or path in self.answers:
+        made = re.match(r'crates/(\w+)/out/', path)
+        if path.startswith(('target/', 'PREFIX/', '/')) or path in self.answers or (made and made[1] in self.project.rooms):
             return True
         return any(list(place.glob(path)) if '*' in path else (place / path).exists() for place in places)
 
@@ -106,7 +107,7 @@ class Names:
         elif file:
             if not self.is_path(document, token) and not self.is_defined(token, rooms):
                 yield '%s, which is no file %s' % (token, 'of ' + ' or '.join(rooms) if rooms else 'here')
-        elif re.fullmatch(r"[\w·′-]+", token) or (call and (call[1] or call[3] is not None)):
+        elif re.fullmatch(r"[\w'-]+", token) or (call and (call[1] or call[3] is not None)):
             yield from self.name_errors(token, call, rooms, elsewhere)
         else:
             yield from self.formula_errors(document, token)
@@ -124,8 +125,8 @@ class Names:
                 yield '%s, whose parameters are others' % token
 
     def formula_errors(self, document, token):
-        """Words with capitals inside or in front, and paths, in what is neither a name nor a call."""
-        for word in re.findall(r"(?<![\w./-])[A-Za-z]+[A-Z]\w*|(?<![\w./-])[A-Z][a-z]\w+", token):
+        """Words with a capital inside or in front or a line inside, and paths, in what is neither a name nor a call."""
+        for word in re.findall(r"(?<![\w./-])(?:[A-Za-z]+[A-Z]\w*|[A-Z][a-z]\w+|[A-Za-z]\w*_\w+)", token):
             for name in spelt_out(word):
                 if not self.is_defined(name, []) and not name.isupper() and name not in ('Tm', 'TM'):
                     yield '%s in `%s`, which is not defined anywhere' % (name, token)
@@ -141,7 +142,7 @@ class Names:
             for name, place, scope in self.scopes_of_names(part, rooms):
                 elsewhere.add(name)
                 plain = re.sub(r'\(.*', '', name).split('::')[-1]
-                if re.fullmatch(r"[\w·′-]+", plain) and not all(n in scope or n in OUTSIDE for n in spelt_out(plain)):
+                if re.fullmatch(r"[\w'-]+", plain) and not all(n in scope or n in OUTSIDE for n in spelt_out(plain)):
                     yield '%s, which is not defined in %s' % (name, place)
             for token in dict.fromkeys(TOKEN.findall(part)):
                 if token not in elsewhere or '(' in token:

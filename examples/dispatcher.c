@@ -1,7 +1,7 @@
 /* A lift dispatcher's cycle. Two units read the same three signals, each on its own clock, so for a while one shows a
  * change that the other has not seen yet. The tuple vote tells such a while from a fault: the dispatcher acts on the
  * confirmed word, and holds the car at an alarm.
- * Build: cc -Iinclude examples/dispatcher.c target/staticlib/libscorvemaglio.a */
+ * Build: cc -Iinclude examples/dispatcher.c crates/scorvemaglio/out/libscorvemaglio.a */
 #include <stdio.h>
 
 #include "scorvemaglio.h"

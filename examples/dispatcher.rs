@@ -1,6 +1,6 @@
 //! The dispatcher's cycle of dispatcher.c through the safe wrapper; it prints the same text. A call's refusal is an
 //! `Err`, so `?` and `match` handle it.
-//! Build: rustc --edition 2021 -L target/staticlib examples/dispatcher.rs
+//! Build: rustc --edition 2021 -L crates/scorvemaglio/out examples/dispatcher.rs
 mod scorvemaglio;
 
 use scorvemaglio::{sizing_of, Tuple, ALARM, CONFIRMED};

@@ -1,6 +1,6 @@
 /* What the units showed at each alarm of a recording of two units, which its listing does not tell, and then the
  * listing: the reader, a run and the text. Reads the recording on standard input; samples/nuisance.qsr is one.
- * Build: cc -Iinclude examples/recording.c target/staticlib/libscorvemaglio.a */
+ * Build: cc -Iinclude examples/recording.c crates/scorvemaglio/out/libscorvemaglio.a */
 #include <stdio.h>
 
 #include "scorvemaglio.h"
