@@ -7,9 +7,12 @@ use mathlib.Core.Bool.{Bool, true, false, ◌&&◌, ◌||◌, true≢false, fals
 use Prim.Native.Nat.{ℕ, ◌<◌, ◌≤◌}
 use native.Mathlib.Omega.{arith}
 use lib.Dec.{ltb, leb, eqb}
-use borrow.Author.Tests.{ltb-true, leb-true, eqb-true, eqb-false, ne_eqb}
+use borrow.Author.Tests.{ltb-true, lt-ltb, leb-true, eqb-true, eqb-false, ne_eqb}
 use Rattle.std.specs.Prelude.{if◌then◌else◌}
 use Rattle.rules.specs.Choose.{choose◌then◌else◌}
+use Rattle.rules.specs.declared.refusal.Refusal.{Refusal}
+use Rattle.rules.specs.declared.refusal.Refusal.TheVariants.{Count, Width, TooLong, Lengths, Word, Sample, State, Times, TooMany, Reading, NotRecording}
+use Rattle.rules.specs.Refusal.{number, refusal_of, is_refusal, known}
 use Rattle.rules.specs.Table.{Row, ◌when◌, first, answer, numbered, rising, has, Given, LowestOf, or_else, through}
 
 pub and_both : (a b : Bool) → a && b ≡ true → (a ≡ true) × (b ≡ true)
@@ -101,26 +104,60 @@ either_answer P number refuse work refused worked = go (eqb number 0) refl
     go true q = worked (eqb-true number 0 q)
     go false q = refused number (eqb-false number 0 q)
 
+-- a refusal has a number, and where a number is a refusal's it is that refusal's own
+positive : (refusal : Refusal) → 0 < number refusal
+positive = elim [
+    Count ↦ omega arith
+  | Width ↦ omega arith
+  | TooLong ↦ omega arith
+  | Lengths ↦ omega arith
+  | Word ↦ omega arith
+  | Sample ↦ omega arith
+  | State ↦ omega arith
+  | Times ↦ omega arith
+  | TooMany ↦ omega arith
+  | Reading ↦ omega arith
+  | NotRecording ↦ omega arith
+]
+
+pub own : (k : ℕ) → is_refusal k ≡ true → number (refusal_of k) ≡ k
+own k e = eqb-true (number (refusal_of k)) k e
+
+pub known_numbered : (rows : List Row) → known rows ≡ true → numbered rows ≡ true
+unfolding known numbered
+known_numbered [] u = refl
+known_numbered (k when b ∷ rows) u =
+    let p = and_both (is_refusal k) (known rows) u in
+    rw (lt-ltb 0 k (omega (arith, positive (refusal_of k), own k p.0))) (known_numbered rows p.1)
+
+known_first : (rows : List Row) → known rows ≡ true → (first rows ≡ 0 → ⊥) → is_refusal (first rows) ≡ true
+unfolding known first
+known_first [] u h = absurd (h refl)
+known_first (k when true ∷ rows) u h = (and_both (is_refusal k) (known rows) u).0
+known_first (k when false ∷ rows) u h = known_first rows (and_both (is_refusal k) (known rows) u).1 h
+
 -- an answer's number is its table's, where a refusal has its own number and the work none
 pub own_number :
-    {A : Type 0} (number_of : A → ℕ) (number : ℕ) (refuse : ℕ → A) (work : A)
-    → ((k : ℕ) → number_of (refuse k) ≡ k)
+    {A : Type 0} (number_of : A → ℕ) (rows : List Row) (refuse : ℕ → A) (work : A)
+    → known rows ≡ true
+    → ((k : ℕ) → is_refusal k ≡ true → number_of (refuse k) ≡ k)
     → number_of work ≡ 0
-    → number_of (answer number refuse work) ≡ number
-own_number {A} number_of number refuse work own none = go (eqb number 0) refl
+    → number_of (answer (first rows) refuse work) ≡ first rows
+own_number {A} number_of rows refuse work u own none = go (eqb (first rows) 0) refl
   where
-    go : (b : Bool) → eqb number 0 ≡ b → number_of (if b then work else refuse number) ≡ number
-    go true q = none ∙ sym (eqb-true number 0 q)
-    go false q = own number
+    go : (b : Bool) → eqb (first rows) 0 ≡ b → number_of (if b then work else refuse (first rows)) ≡ first rows
+    go true q = none ∙ sym (eqb-true (first rows) 0 q)
+    go false q = own (first rows) (known_first rows u (eqb-false (first rows) 0 q))
 
 -- so a call answers with number k exactly when its table says so
 pub exactly_when :
     {A : Type 0} (number_of : A → ℕ) (rows : List Row) (refuse : ℕ → A) (work : A)
-    → numbered rows ≡ true
-    → ((k : ℕ) → number_of (refuse k) ≡ k)
+    → known rows ≡ true
+    → ((k : ℕ) → is_refusal k ≡ true → number_of (refuse k) ≡ k)
     → number_of work ≡ 0
     → (k : ℕ) → (number_of (answer (first rows) refuse work) ≡ k) ↔ Given k rows
-exactly_when number_of rows refuse work u own none k = rw (own_number number_of (first rows) refuse work own none) (exactly rows u k)
+exactly_when number_of rows refuse work u own none k =
+    rw (own_number number_of rows refuse work u own none) (exactly rows (known_numbered rows u) k)
 
 -- code that goes through the rows, line by line, finds the table's number
 kept : (r : ℕ) (rows : List Row) → eqb r 0 ≡ false → through r rows ≡ r

@@ -1,10 +1,17 @@
 // Limits, words and refusals: what every other room tests and answers by.
 #![tactic(auto)]
 
+mod made;
+mod refusal;
+
 ghost use Rattle.std.specs.Prelude.{◌≡◌, true, ◌-◌};
 ghost use Rattle.rules.specs.Limits.{bad_count, bad_width, outside, default_word};
-ghost use Rattle.rules.specs.Table.{first, or_else};
+ghost use Rattle.rules.specs.Table.{first};
+ghost use Rattle.rules.specs.Refusal.{refusal_of, told};
 ghost use Rattle.rules.specs.Refusals.{make_rows, step_rows, counted, admits};
+
+pub use made::Made;
+pub use refusal::Refusal;
 
 // The limits: of a count N, of a width n, and of a trace's samples.
 #[derive(Clone, Copy)]
@@ -59,26 +66,17 @@ pub fn default_word(n: u32) -> u32
 pub fn last(need: u32) -> u32
     ensures { result ≡ need - 1 }
 {
-    if need == 0 { 0 } else { need - 1 }
-}
-
-// One row of a table of refusals: what is refused already stays.
-pub fn or_else(refusal: u32, number: u32, bad: bool) -> u32
-    ensures { result ≡ or_else refusal number bad }
-{
-    if refusal != 0 {
-        return refusal;
-    }
-    if bad { number } else { 0 }
+    need.saturating_sub(1)
 }
 
 // The table of every constructor: a bad count, the width, the initial word.
-pub fn make_refusal(miscounted: bool, n: u32, word: u32) -> u32
-    ensures { result ≡ first (make_rows miscounted n word) }
+#[tactic(auto, unfolding(crate::specs::Table::first))]
+pub fn make_refusal(miscounted: bool, n: u32, word: u32) -> Result<(), Refusal>
+    ensures { result ≡ told (first (make_rows miscounted n word)) }
 {
-    let r = or_else(0, 1, miscounted);
-    let r = or_else(r, 2, bad_width(n));
-    or_else(r, 5, outside(n, word))
+    Refusal::Count.when(miscounted)?;
+    Refusal::Width.when(bad_width(n))?;
+    Refusal::Word.when(outside(n, word))
 }
 
 // Rows 1 and 7, of a count: N is one that is taken, and the running count is below it.
@@ -102,17 +100,18 @@ pub fn admits(counts: bool, n: u32, words: u32) -> bool
 }
 
 // The table of a step that is not taken, its sample's words in one: what no row before refuses is the state's.
-pub fn step_number(miscounted: bool, n: u32, sample: u32) -> u32
-    ensures { result ≡ first (step_rows miscounted n (outside n sample) true) }
+#[tactic(auto, unfolding(crate::specs::Table::first))]
+pub fn step_refusal(miscounted: bool, n: u32, sample: u32) -> Refusal
+    ensures { result ≡ refusal_of (first (step_rows miscounted n (outside n sample) true)) }
 {
     if miscounted {
-        return 1;
+        return Refusal::Count;
     }
     if bad_width(n) {
-        return 2;
+        return Refusal::Width;
     }
     if outside(n, sample) {
-        return 6;
+        return Refusal::Sample;
     }
-    7
+    Refusal::State
 }

@@ -1,0 +1,71 @@
+-- The refusals of document 01 by name, and their numbers: "given exactly when" is said of the numbers, in tables.
+use Rattle.std.specs.Prelude.{ℕ, List, [], ◌∷◌, Bool, true, ◌&&◌, eqb, if◌then◌else◌, Option, Some, None, Result, Ok, Err}
+use Rattle.rules.specs.Table.{Row, ◌when◌}
+use Rattle.rules.specs.declared.refusal.Refusal.{Refusal}
+use Rattle.rules.specs.declared.refusal.Refusal.TheVariants.{
+  Count,
+  Width,
+  TooLong,
+  Lengths,
+  Word,
+  Sample,
+  State,
+  Times,
+  TooMany,
+  Reading,
+  NotRecording,
+}
+
+-- 8 is given to nothing: a voted word is never outside the width
+abbrev pub number : Refusal → ℕ
+number Count = 1
+number Width = 2
+number TooLong = 3
+number Lengths = 4
+number Word = 5
+number Sample = 6
+number State = 7
+number Times = 9
+number TooMany = 10
+number Reading = 11
+number NotRecording = 12
+
+-- the refusal that has this number; the numbers that none has go to the last
+abbrev pub refusal_of : ℕ → Refusal
+refusal_of k =
+    if eqb k 1 then Count else
+    if eqb k 2 then Width else
+    if eqb k 3 then TooLong else
+    if eqb k 4 then Lengths else
+    if eqb k 5 then Word else
+    if eqb k 6 then Sample else
+    if eqb k 7 then State else
+    if eqb k 9 then Times else
+    if eqb k 10 then TooMany else
+    if eqb k 11 then Reading else
+    NotRecording
+
+-- a number that a refusal has, and a table whose rows all have one
+abbrev pub is_refusal : ℕ → Bool
+is_refusal k = eqb (number (refusal_of k)) k
+
+unfoldable pub known : List Row → Bool
+known [] = true
+known (k when b ∷ rows) = is_refusal k && known rows
+
+-- what the number of a table tells: 0 is no refusal
+abbrev pub told : ℕ → Result (Unit {0}) Refusal
+told k = if eqb k 0 then Ok tt else Err (refusal_of k)
+
+-- one row: refused where its test is true
+abbrev pub row : Refusal → Bool → Result (Unit {0}) Refusal
+row refusal bad = if bad then Err refusal else Ok tt
+
+-- the number of a refusal, if there is one, and of an answer that may be one; 0 is none
+abbrev pub number_in : Option Refusal → ℕ
+number_in None = 0
+number_in (Some refusal) = number refusal
+
+abbrev pub number_told : {A : Type 0} → Result A Refusal → ℕ
+number_told (Ok x) = 0
+number_told (Err refusal) = number refusal
