@@ -10,7 +10,7 @@ use borrow.Author.Tests.{eqb-true}
 use Rattle.std.specs.Prelude.{if◌then◌else◌}
 use Rattle.rules.specs.Limits.{bad_width, outside, default_word}
 use Rattle.rules.specs.Table.{Row, first, answer, numbered, rising, Given, LowestOf, ◌and◌}
-use Rattle.rules.specs.Refusal.{is_refusal, known}
+use Rattle.rules.specs.Refusal.{refusal_of, is_refusal, known}
 use Rattle.rules.specs.Refusals.{make_rows, new_rows, step_rows, run_rows}
 use Rattle.rules.proofs.Default.{default_inside, default_is}
 use Rattle.rules.proofs.Tables.{exactly, lowest, works, own_number}
@@ -54,7 +54,7 @@ module _ (miscounted : Bool) (n word : ℕ) where
       → number_of work ≡ 0
       → number_of (answer (first making) refuse work) ≡ 0
       → Makes
-  unfolding known
+  unfolding known refusal_of
   accepted number_of refuse work own none e = make_0.0 (sym (own_number number_of making refuse work refl own none) ∙ e)
 
   -- where several apply, the lowest number is given

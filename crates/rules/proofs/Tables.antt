@@ -8,11 +8,11 @@ use Prim.Native.Nat.{ℕ, ◌<◌, ◌≤◌}
 use native.Mathlib.Omega.{arith}
 use lib.Dec.{ltb, leb, eqb}
 use borrow.Author.Tests.{ltb-true, lt-ltb, leb-true, eqb-true, eqb-false, ne_eqb}
-use Rattle.std.specs.Prelude.{if◌then◌else◌}
+use Rattle.std.specs.Prelude.{if◌then◌else◌, Result, Ok, Err}
 use Rattle.rules.specs.Choose.{choose◌then◌else◌}
 use Rattle.rules.specs.declared.refusal.Refusal.{Refusal}
 use Rattle.rules.specs.declared.refusal.Refusal.TheVariants.{Count, Width, TooLong, Lengths, Word, Sample, State, Times, TooMany, Reading, NotRecording}
-use Rattle.rules.specs.Refusal.{number, refusal_of, is_refusal, known}
+use Rattle.rules.specs.Refusal.{number, refusal_of, is_refusal, known, told}
 use Rattle.rules.specs.Table.{Row, ◌when◌, first, answer, numbered, rising, has, Given, LowestOf, or_else, through}
 
 pub and_both : (a b : Bool) → a && b ≡ true → (a ≡ true) × (b ≡ true)
@@ -92,6 +92,19 @@ module _ {A : Type 0} (refuse : ℕ → A) (work : A) {number k : ℕ} (found : 
   pub works : k ≡ 0 → work ≡ answer number refuse work
   works e = rw (← found, e)
 
+-- and what the number tells, as code finds it by `?`
+pub told_err : {k : ℕ} {refusal : Refusal} → told k ≡ Err refusal → (k ≡ 0 → ⊥) × (refusal_of k ≡ refusal)
+told_err {k} {refusal} = go (eqb k 0) refl where
+  go : (b : Bool) → eqb k 0 ≡ b → ◌≡◌ {A = Result (Unit {0}) Refusal} (if b then Ok tt else Err (refusal_of k)) (Err refusal) → (k ≡ 0 → ⊥) × (refusal_of k ≡ refusal)
+  go true q e = absurd (cc)
+  go false q e = (eqb-false k 0 q, cc)
+
+pub told_ok : {k : ℕ} {x : Unit {0}} → told k ≡ Ok x → k ≡ 0
+told_ok {k} {x} = go (eqb k 0) refl where
+  go : (b : Bool) → eqb k 0 ≡ b → ◌≡◌ {A = Result (Unit {0}) Refusal} (if b then Ok tt else Err (refusal_of k)) (Ok x) → k ≡ 0
+  go true q e = eqb-true k 0 q
+  go false q e = absurd (cc)
+
 -- what holds of every refusal, and of the work where no number is given, holds of the answer
 pub either_answer :
     {A : Type 0} (P : A → Type 0) (number : ℕ) (refuse : ℕ → A) (work : A)
@@ -130,7 +143,7 @@ known_numbered (k when b ∷ rows) u =
     let p = and_both (is_refusal k) (known rows) u in
     rw (lt-ltb 0 k (omega (arith, positive (refusal_of k), own k p.0))) (known_numbered rows p.1)
 
-known_first : (rows : List Row) → known rows ≡ true → (first rows ≡ 0 → ⊥) → is_refusal (first rows) ≡ true
+pub known_first : (rows : List Row) → known rows ≡ true → (first rows ≡ 0 → ⊥) → is_refusal (first rows) ≡ true
 unfolding known first
 known_first [] u h = absurd (h refl)
 known_first (k when true ∷ rows) u h = (and_both (is_refusal k) (known rows) u).0

@@ -31,7 +31,7 @@ number Reading = 11
 number NotRecording = 12
 
 -- the refusal that has this number; the numbers that none has go to the last
-abbrev pub refusal_of : ℕ → Refusal
+unfoldable pub refusal_of : ℕ → Refusal
 refusal_of k =
     if eqb k 1 then Count else
     if eqb k 2 then Width else

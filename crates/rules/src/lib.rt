@@ -70,7 +70,7 @@ pub fn last(need: u32) -> u32
 }
 
 // The table of every constructor: a bad count, the width, the initial word.
-#[tactic(auto, unfolding(crate::specs::Table::first))]
+#[tactic(auto, unfolding(crate::specs::Table::first, crate::specs::Refusal::refusal_of))]
 pub fn make_refusal(miscounted: bool, n: u32, word: u32) -> Result<(), Refusal>
     ensures { result ≡ told (first (make_rows miscounted n word)) }
 {
@@ -100,7 +100,7 @@ pub fn admits(counts: bool, n: u32, words: u32) -> bool
 }
 
 // The table of a step that is not taken, its sample's words in one: what no row before refuses is the state's.
-#[tactic(auto, unfolding(crate::specs::Table::first))]
+#[tactic(auto, unfolding(crate::specs::Table::first, crate::specs::Refusal::refusal_of))]
 pub fn step_refusal(miscounted: bool, n: u32, sample: u32) -> Refusal
     ensures { result ≡ refusal_of (first (step_rows miscounted n (outside n sample) true)) }
 {

@@ -1,21 +1,23 @@
 -- Runs over two columns and over four: what is known where nothing is refused before the samples, and what the samples decide.
-use mathlib.Core.Path.{◌≡◌, sym, ap₂, ◌∙◌}
+use mathlib.Core.Path.{◌≡◌, refl}
 use mathlib.Core.Logic.{◌↔◌}
 use mathlib.Core.List.{List, zip}
-use mathlib.Core.Bool.{Bool, false, ◌||◌}
+use mathlib.Core.Bool.{Bool, true, false, ◌||◌}
 use Prim.Native.Nat.{ℕ, ◌≤◌, min}
 use native.Mathlib.Omega.{arith}
 use lib.ListN.{length}
-use borrow.Author.Tests.{ltb-false, le-ltb, eq-eqb}
+use lib.Dec.{ltb}
+use borrow.Author.Tests.{ltb-true, ltb-false, lt-ltb, le-ltb, eq-eqb}
 use Rattle.rules.specs.Limits.{outside}
 use Rattle.rules.proofs.Ranges.{same}
 use Rattle.rules.proofs.Readings.{Runs, run_0}
 use Rattle.rules.proofs.Tables.{or_each}
-use Rattle.trace.specs.Samples.{first_where, somewhere, outside_pair, outside_four}
+use Rattle.std.specs.Prelude.{if◌then◌else◌, position, Option, Some, None}
+use Rattle.trace.specs.Samples.{first_where, somewhere, earlier, outside_pair, outside_four}
 use Rattle.trace.specs.Answers.{sampled_of, long_pair, long_four, apart_pair, apart_four, pair_answer, four_answer}
 use Rattle.trace.proofs.Columns.{zip_length, four_length}
-use Rattle.trace.proofs.Runs.{early, sampled}
-use Rattle.trace.proofs.Samples.{all_passed, either}
+use Rattle.trace.proofs.Runs.{early, sampled, Fits32, few_found}
+use Rattle.trace.proofs.Samples.{all_passed, either, position_is}
 
 -- where neither column has a marked sample, the two together have none
 pub neither :
@@ -25,12 +27,29 @@ neither p q xs ys e f g =
     let passed : length xs ≤ min (first_where p xs) (first_where q ys) = omega (arith, all_passed p xs f, all_passed q ys g) in
     rw (either p q xs ys e, zip_length xs ys e) (le-ltb _ _ passed)
 
-module _ (n : ℕ) (a b : List ℕ) where
-  abbrev pub first_of : ℕ
-  first_of = min (first_where (outside n) a) (first_where (outside n) b)
+-- the smaller of the numbers found in two columns is the one found in both together
+smaller :
+    (k m l : ℕ) → earlier (if ltb k l then Some k else None) (if ltb m l then Some m else None)
+    ≡ (if ltb (min k m) l then Some (min k m) else None)
+smaller k m l = go (ltb k l) (ltb m l) refl refl where
+  go :
+      (p q : Bool) → ltb k l ≡ p → ltb m l ≡ q
+      → earlier (if p then Some k else None) (if q then Some m else None) ≡ (if ltb (min k m) l then Some (min k m) else None)
+  go true true e f = rw (lt-ltb (min k m) l (omega (arith, ltb-true k l e)))
+  go true false e f =
+      let same : min k m ≡ k = omega (arith, ltb-true k l e, ltb-false m l f) in
+      rw (same, e)
+  go false true e f =
+      let same : min k m ≡ m = omega (arith, ltb-false k l e, ltb-true m l f) in
+      rw (same, f)
+  go false false e f = rw (le-ltb (min k m) l (omega (arith, ltb-false k l e, ltb-false m l f)))
 
-  pair_first : length a ≡ length b → first_of ≡ first_where (outside_pair n) (zip a b)
-  pair_first e = sym (either (outside n) (outside n) a b e)
+pub earlier_found :
+    {X Y : Type 0} (p : X → Bool) (q : Y → Bool) (xs : List X) (ys : List Y) → length xs ≡ length ys
+    → earlier (position p xs) (position q ys) ≡ position (λ (z : X × Y). p z.0 || q z.1) (zip xs ys)
+earlier_found p q xs ys e =
+    rw (position_is p xs, position_is q ys, position_is (λ z. p z.0 || q z.1) (zip xs ys), either p q xs ys e, zip_length xs ys e, ← e)
+    (smaller (first_where p xs) (first_where q ys) (length xs))
 
 -- numbers 3 and 4 of two columns, and of four: no column is too long, and each, with every output slice, is as long as the first
 pub short_pair : (a b : List ℕ) → (long_pair a b ≡ false) ↔ ((length a ≤ 2048) × (length b ≤ 2048))
@@ -63,8 +82,14 @@ module _ (miscounted : Bool) (n word : ℕ) (a b : List ℕ) (unequal : Bool) (n
   pub pair_few : length a ≤ 2048
   pair_few = ((short_pair a b).0 pair_fine.short).0
 
-  pub pair_sampled : sampled_of (first_of n a b) (length a) ≡ pair_answer miscounted n word a b unequal
-  pair_sampled = sampled miscounted n word _ _ outside_pair (zip a b) none (pair_first n a b pair_alike) (sym (zip_length a b pair_alike))
+  pair_position : earlier (position (outside n) a) (position (outside n) b) ≡ position (outside_pair n) (zip a b)
+  pair_position = earlier_found (outside n) (outside n) a b pair_alike
+
+  pub pair_found : Fits32 (earlier (position (outside n) a) (position (outside n) b))
+  pair_found = rw pair_position (few_found (outside_pair n) (zip a b) (omega (arith, zip_length a b pair_alike, pair_few)))
+
+  pub pair_sampled : sampled_of (earlier (position (outside n) a) (position (outside n) b)) ≡ pair_answer miscounted n word a b unequal
+  pair_sampled = rw pair_position (sampled miscounted n word _ _ outside_pair (zip a b) none)
 
 module _
     (miscounted : Bool) (n word : ℕ) (a b c d : List ℕ) (unequal : Bool)
@@ -78,10 +103,21 @@ module _
   pub four_few : length a ≤ 2048
   four_few = ((short_four a b c d).0 four_fine.short).0.0
 
-  pub four_sampled : sampled_of (min (first_of n a b) (first_of n c d)) (length a) ≡ four_answer miscounted n word a b c d unequal
-  four_sampled =
+  abbrev four_earliest : Option ℕ
+  four_earliest = earlier (earlier (position (outside n) a) (position (outside n) b)) (earlier (position (outside n) c) (position (outside n) d))
+
+  four_position : four_earliest ≡ position (outside_four n) (zip (zip a b) (zip c d))
+  four_position =
       let ab = four_alike.0 in
       let cd : length c ≡ length d = omega (arith, four_alike) in
       let pairs : length (zip a b) ≡ length (zip c d) = omega (arith, four_alike, zip_length a b ab, zip_length c d cd) in
-      let found = ap₂ min (pair_first n a b ab) (pair_first n c d cd) ∙ sym (either (outside_pair n) (outside_pair n) (zip a b) (zip c d) pairs) in
-      sampled miscounted n word _ _ outside_four (zip (zip a b) (zip c d)) none found (sym (four_length a b c d ab four_alike.1 four_alike.2))
+      rw (earlier_found (outside n) (outside n) a b ab, earlier_found (outside n) (outside n) c d cd)
+      (earlier_found (outside_pair n) (outside_pair n) (zip a b) (zip c d) pairs)
+
+  pub four_found : Fits32 four_earliest
+  four_found =
+      rw four_position
+      (few_found (outside_four n) (zip (zip a b) (zip c d)) (omega (arith, four_length a b c d four_alike.0 four_alike.1 four_alike.2, four_few)))
+
+  pub four_sampled : sampled_of four_earliest ≡ four_answer miscounted n word a b c d unequal
+  four_sampled = rw four_position (sampled miscounted n word _ _ outside_four (zip (zip a b) (zip c d)) none)

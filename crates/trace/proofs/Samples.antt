@@ -2,7 +2,7 @@
 -- columns.
 use mathlib.Core.Path.{◌≡◌, refl, sym, ◌∙◌}
 use mathlib.Core.List.{List, [], ◌∷◌, zip, zip_with}
-use mathlib.Core.Bool.{Bool, true, false, ◌||◌, false≢true}
+use mathlib.Core.Bool.{Bool, true, false, cond, ◌||◌, false≢true}
 use Prim.Native.Nat.{ℕ, zero, suc, ◌+◌, ◌<◌, ◌≤◌, min}
 use native.Mathlib.Numerals.{add-one}
 use native.Mathlib.Omega.{arith}
@@ -10,7 +10,8 @@ use lib.ListN.{length, get_or, drop, drop_of_length-le}
 use lib.Seq.{drop-cons}
 use lib.Dec.{ltb, leb-zero, leb-suc-suc}
 use borrow.Author.Tests.{ltb-true, ltb-false}
-use Rattle.std.specs.Prelude.{if◌then◌else◌}
+use Rattle.std.specs.Prelude.{if◌then◌else◌, position, Some, None}
+use Rattle.std.proofs.lemmas.List.Recursion.{is_position_or_len}
 use Rattle.rules.specs.Signals.{some_below}
 use Rattle.rules.proofs.Signals.{none_below, not_at}
 use Rattle.trace.specs.Samples.{first_where, somewhere, Smallest}
@@ -90,6 +91,15 @@ module _ {X : Type 0} (test : X → Bool) where
 
   pub all_passed : (xs : List X) → somewhere test xs ≡ false → length xs ≡ first_where test xs
   all_passed xs e = omega (arith, at_most xs, ltb-false (first_where test xs) (length xs) e)
+
+  -- the library's search finds it
+  by_test : (b : Bool) (k : ℕ) → (if b then 0 else suc k) ≡ cond b 0 (1 + k)
+  by_test true k = refl
+  by_test false k = omega arith
+
+  pub position_is : (xs : List X) → position test xs ≡ (if somewhere test xs then Some (first_where test xs) else None)
+  unfolding first_where
+  position_is xs = rw (is_position_or_len (first_where test) test refl (λ x xs. by_test (test x) (first_where test xs)) xs)
 
 -- samples of two columns: the first that either test marks is the smaller of the two numbers
 pub either :

@@ -5,12 +5,16 @@ use lib.ListN.{length}
 use Rattle.rules.specs.Limits.{too_long, outside}
 use Rattle.rules.specs.Promise.{Fixes}
 use Rattle.rules.proofs.Promise.{fixes}
-use Rattle.trace.specs.Answers.{run_number, run_sample, run_answer, pair_answer, four_answer}
-use Rattle.trace.proofs.RunAnswer.number.Reads as number
-use Rattle.trace.proofs.RunAnswer.sample.Reads as sample
+use Rattle.trace.specs.Answers.{at_once, run_number, run_sample, run_answer, pair_answer, four_answer}
+use Rattle.trace.proofs.RefusedFromRefusal.from.Reads as from
+use Rattle.trace.proofs.number.Reads as number
+use Rattle.trace.proofs.sample.Reads as sample
 use Rattle.trace.proofs.judge.Reads as judge
 use Rattle.trace.proofs.judge_pair.Reads as judge-pair
 use Rattle.trace.proofs.judge_four.Reads as judge-four
+
+pub from_unique : Fixes (from.Learnt tt) (λ z e. z) (λ a. at_once a.0)
+from_unique = fixes (λ a z e p. p)
 
 pub number_unique : Fixes (number.Learnt tt) (λ z e. z) (λ a. run_number a.0)
 number_unique = fixes (λ a z e p. p)

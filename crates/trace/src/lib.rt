@@ -2,51 +2,71 @@
 // state, sample and answer, stands in specs/; the laws by which a loop that fills lent slices is shown to be one, in proofs/.
 #![tactic(auto)]
 
-ghost use Rattle.std.specs.Prelude.{◌≡◌, false, ◌≤◌, min, length};
+ghost use Rattle.std.specs.Prelude.{◌≡◌, false, ◌<◌, ◌^◌, length, position, MatchOption};
 ghost use Rattle.rules.specs.Limits.{too_long, outside};
-ghost use Rattle.rules.specs.Table.{first};
+ghost use Rattle.rules.specs.Refusal.{told};
 ghost use Rattle.rules.specs.Refusals.{run_rows};
-ghost use Rattle.trace.specs.Samples.{first_where, somewhere};
-ghost use Rattle.trace.specs.Answers.{run_number, run_sample, run_answer, sampled_of, pair_answer, four_answer};
+ghost use Rattle.rules.specs.Table.{first};
+ghost use Rattle.trace.specs.Samples.{somewhere, earlier};
+ghost use Rattle.trace.specs.Answers.{at_once, run_number, run_sample, run_answer, sampled_of, pair_answer, four_answer};
 
-// The answer of every run. The sample number is 0 except with 6.
-#[derive(Clone, Copy)]
-pub enum RunAnswer {
-    Done,
-    Refused { number: u32, sample: u32 },
+use rules::{Limits, Refusal};
+
+// What refuses a run, and the number of the sample that it is about, 0 except with `Sample`.
+#[derive(Clone, Copy, Debug, PartialEq, Eq)]
+pub struct Refused {
+    pub refusal: Refusal,
+    pub sample: u32,
 }
 
-impl RunAnswer {
-    // The refusal's number, 0 for none.
-    pub fn number(self) -> u32
-        ensures { result ≡ run_number self }
-    {
-        match self {
-            RunAnswer::Done => 0,
-            RunAnswer::Refused { number, sample: _ } => number,
-        }
-    }
+// The answer of every run.
+pub type RunAnswer = Result<(), Refused>;
 
-    // The sample that the refusal is about.
-    pub fn sample(self) -> u32
-        ensures { result ≡ run_sample self }
-    {
-        match self {
-            RunAnswer::Done => 0,
-            RunAnswer::Refused { number: _, sample } => sample,
-        }
+// What is known before a sample is read refuses at sample 0.
+impl From<Refusal> for Refused {
+    ghost from_gives = { λ refusal refused. refused ≡ at_once refusal };
+
+    fn from(refusal: Refusal) -> Refused {
+        Refused { refusal, sample: 0 }
+    }
+}
+
+// The refusal's number, 0 for none.
+pub fn number(answer: RunAnswer) -> u32
+    ensures { result ≡ run_number answer }
+{
+    match answer {
+        Ok(()) => 0,
+        Err(refused) => refused.refusal.into(),
+    }
+}
+
+// The sample that the refusal is about.
+pub fn sample(answer: RunAnswer) -> u32
+    ensures { result ≡ run_sample answer }
+{
+    match answer {
+        Ok(()) => 0,
+        Err(refused) => refused.sample,
     }
 }
 
 // The table of every run but for its last row: no sample has been read yet.
-fn run_refusal(miscounted: bool, n: u32, word: u32, long: bool, unequal: bool) -> u32
-    ensures { result ≡ first (run_rows miscounted n word long unequal false) }
+#[tactic(auto, unfolding(rules::specs::Table::first, rules::specs::Refusal::refusal_of))]
+fn run_refusal(
+    miscounted: bool,
+    n: u32,
+    word: u32,
+    long: bool,
+    unequal: bool,
+) -> Result<(), Refusal>
+    ensures { result ≡ told (first (run_rows miscounted n word long unequal false)) }
 {
-    let r = rules::or_else(0, 1, miscounted);
-    let r = rules::or_else(r, 2, rules::bad_width(n));
-    let r = rules::or_else(r, 3, long);
-    let r = rules::or_else(r, 4, unequal);
-    rules::or_else(r, 5, rules::outside(n, word))
+    Refusal::Count.when(miscounted)?;
+    Refusal::Width.when(rules::bad_width(n))?;
+    Refusal::TooLong.when(long)?;
+    Refusal::Lengths.when(unequal)?;
+    Refusal::Word.when(rules::outside(n, word))
 }
 
 // Some sample is outside the width exactly when the OR of all is; a loop without a branch becomes wide code.
@@ -54,63 +74,48 @@ fn some_outside(n: u32, samples: &[u32]) -> bool
     ensures { result ≡ somewhere (outside n) samples.now }
 {
     let mut union = 0;
-    let mut i = 0;
-    while i < samples.len() {
-        union = union | samples[i];
-        i += 1;
+    for sample in samples {
+        union |= *sample;
     }
     rules::outside(n, union)
 }
 
-// The number of the first sample outside the width, or the number of samples.
-fn first_outside(n: u32, samples: &[u32]) -> usize
-    ensures { result ≡ first_where (outside n) samples.now }
+// The smaller of two numbers, of which either may be missing.
+fn earlier(i: Option<usize>, j: Option<usize>) -> Option<usize>
+    ensures { result ≡ earlier i j }
 {
-    let mut i = 0;
-    while i < samples.len() {
-        let bad = rules::outside(n, samples[i]);
-        if bad {
-            return i;
-        }
-        i += 1;
+    i.into_iter().chain(j).min()
+}
+
+// The number of the first sample outside the width, searched only where the OR of all samples says that there is one.
+fn outsider(n: u32, samples: &[u32]) -> Option<usize>
+    ensures { result ≡ position (outside n) samples.now }
+{
+    if !some_outside(n, samples) {
+        return None;
     }
-    i
+    samples.iter().position(|sample| rules::outside(n, *sample))
 }
 
-// The same, searched only where the OR of all samples says that there is one.
-fn outsider(n: u32, samples: &[u32]) -> usize
-    ensures { result ≡ first_where (outside n) samples.now }
+// The same in two columns.
+fn outsider_of(n: u32, a: &[u32], b: &[u32]) -> Option<usize>
+    ensures { result ≡ earlier (position (outside n) a.now) (position (outside n) b.now) }
 {
-    if some_outside(n, samples) {
-        return first_outside(n, samples);
+    earlier(outsider(n, a), outsider(n, b))
+}
+
+// The last row of a run's table: a sample outside the width, if there is one.
+fn sampled(outsider: Option<usize>) -> RunAnswer
+    requires { MatchOption outsider (Unit {0}) (λ i. i < 2 ^ 32) }
+    ensures { result ≡ sampled_of outsider }
+{
+    match outsider {
+        Some(i) => Err(Refused {
+            refusal: Refusal::Sample,
+            sample: i as u32,
+        }),
+        None => Ok(()),
     }
-    samples.len()
-}
-
-fn least(a: usize, b: usize) -> usize
-    ensures { result ≡ min a b }
-{
-    if a < b { a } else { b }
-}
-
-// The last row of a run's table: a sample outside the width, if there is one before the end of the trace.
-fn sampled(outsider: usize, samples: usize) -> RunAnswer
-    requires { samples ≤ 2048 }
-    ensures { result ≡ sampled_of outsider samples }
-{
-    if outsider < samples {
-        return RunAnswer::Refused {
-            number: 6,
-            sample: outsider as u32,
-        };
-    }
-    RunAnswer::Done
-}
-
-fn refused(number: u32) -> RunAnswer
-    ensures { result ≡ RunAnswer.Refused number 0 }
-{
-    RunAnswer::Refused { number, sample: 0 }
 }
 
 // A run over one column. A trace that is refused by a lower number is not read.
@@ -118,12 +123,9 @@ pub fn judge(miscounted: bool, n: u32, word: u32, samples: &[u32], unequal: bool
     ensures { result ≡ run_answer outside miscounted n word (too_long (length samples.now))
         unequal samples.now }
 {
-    let long = samples.len() > rules::Limits::SAMPLES;
-    let refusal = run_refusal(miscounted, n, word, long, unequal);
-    if refusal != 0 {
-        return refused(refusal);
-    }
-    sampled(outsider(n, samples), samples.len())
+    let long = samples.len() > Limits::SAMPLES;
+    run_refusal(miscounted, n, word, long, unequal)?;
+    sampled(outsider(n, samples))
 }
 
 // A run over two columns, whose lengths are compared here.
@@ -137,13 +139,10 @@ pub fn judge_pair(
 ) -> RunAnswer
     ensures { result ≡ pair_answer miscounted n word a.now b.now unequal }
 {
-    let long = (a.len() > rules::Limits::SAMPLES) | (b.len() > rules::Limits::SAMPLES);
+    let long = (a.len() > Limits::SAMPLES) | (b.len() > Limits::SAMPLES);
     let apart = (a.len() != b.len()) | unequal;
-    let refusal = run_refusal(miscounted, n, word, long, apart);
-    if refusal != 0 {
-        return refused(refusal);
-    }
-    sampled(least(outsider(n, a), outsider(n, b)), a.len())
+    run_refusal(miscounted, n, word, long, apart)?;
+    sampled(outsider_of(n, a, b))
 }
 
 // A run over four columns, two pairs, whose lengths are compared here.
@@ -159,16 +158,11 @@ pub fn judge_four(
 ) -> RunAnswer
     ensures { result ≡ four_answer miscounted n word a.now b.now c.now d.now unequal }
 {
-    let long = (a.len() > rules::Limits::SAMPLES)
-        | (b.len() > rules::Limits::SAMPLES)
-        | (c.len() > rules::Limits::SAMPLES)
-        | (d.len() > rules::Limits::SAMPLES);
+    let long = (a.len() > Limits::SAMPLES)
+        | (b.len() > Limits::SAMPLES)
+        | (c.len() > Limits::SAMPLES)
+        | (d.len() > Limits::SAMPLES);
     let apart = (a.len() != b.len()) | (a.len() != c.len()) | (a.len() != d.len()) | unequal;
-    let refusal = run_refusal(miscounted, n, word, long, apart);
-    if refusal != 0 {
-        return refused(refusal);
-    }
-    let first = least(outsider(n, a), outsider(n, b));
-    let second = least(outsider(n, c), outsider(n, d));
-    sampled(least(first, second), a.len())
+    run_refusal(miscounted, n, word, long, apart)?;
+    sampled(earlier(outsider_of(n, a, b), outsider_of(n, c, d)))
 }

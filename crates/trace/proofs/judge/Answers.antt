@@ -1,24 +1,23 @@
--- `trace::judge` meets its contract: the two ways to answer are those of `Runs`.
-use mathlib.Core.Path.{refl, sym, ◌∙◌}
-use mathlib.Core.Bool.{false}
+-- `trace::judge` meets its contract: a row before the last refuses, or the samples decide.
+use mathlib.Core.Path.{sym, ◌∙◌}
 use lib.ListN.{length}
 use borrow.Author.Tests.{ltb-false}
-use Rattle.rules.specs.Limits.{too_long}
-use Rattle.rules.proofs.Readings.{Runs, run_0}
-use Rattle.trace.proofs.Runs.{refused_early, sampled}
+use Rattle.rules.specs.Limits.{too_long, outside}
+use Rattle.rules.proofs.Readings.{run_0}
+use Rattle.rules.proofs.Tables.{told_ok}
+use Rattle.trace.proofs.Runs.{raised, few_found, refused_early, sampled}
 use Rattle.trace.proofs.judge.Goals as goal
-use Rattle.trace.proofs.judge.Goals.{After-outsider}
 
-pub returns-then-refusal-ne0 : goal.returns-then-refusal-ne0
-returns-then-refusal-ne0 c = c.refused.ensures ∙ refused_early _ _ _ _ _ _ _ c.run_refusal-refusal.ensures c.if-refusal-ne0.true
-
--- nothing is refused where the samples are read
-fine : (c : After-outsider) → let a = c.args in Runs a.miscounted a.n a.word (too_long (length a.samples.now)) a.unequal false
-fine c = (run_0 _ _ _ _ _ _).0 (sym c.run_refusal-refusal.ensures ∙ c.if-refusal-ne0.false)
+pub returns-in_err-run_refusal : goal.returns-in_err-run_refusal
+returns-in_err-run_refusal c =
+    raised c.from_residual.ensures.1 ∙ refused_early _ _ _ _ _ _ _ (sym c.run_refusal.ensures ∙ c.in_err-run_refusal.was)
 
 pub sampled-requires : goal.sampled-requires
-sampled-requires c = ltb-false 2048 _ (fine c).short
+sampled-requires c =
+    let x = c.args in
+    let none = (run_0 x.miscounted x.n x.word (too_long (length x.samples.now)) x.unequal _).0 (told_ok (sym c.run_refusal.ensures ∙ c.in_ok-run_refusal.was)) in
+    rw c.outsider.ensures (few_found (outside x.n) x.samples.now (ltb-false 2048 _ none.short))
 
 pub returns : goal.returns
 returns c =
-    c.sampled.ensures ∙ sampled _ _ _ _ _ _ _ (sym c.run_refusal-refusal.ensures ∙ c.if-refusal-ne0.false) c.outsider.ensures refl
+    c.sampled.ensures ∙ rw c.outsider.ensures (sampled _ _ _ _ _ outside _ (told_ok (sym c.run_refusal.ensures ∙ c.in_ok-run_refusal.was)))
