@@ -9,10 +9,11 @@ ghost use Rattle.confirm.specs.Answers.{number_of, word_of, mark_of};
 ghost use Rattle.confirm.specs.Confirm.{fresh, held, confirmed, clauses, made_of, step_of};
 ghost use Rattle.confirm.specs.Run.{Ran};
 
+use rules::{Made, Refusal, Step};
 use trace::RunAnswer;
 
 // The state of a confirmation, with its width n and its count N (`need`).
-#[derive(Clone, Copy)]
+#[derive(Clone, Copy, Debug, PartialEq, Eq)]
 pub struct Confirm {
     pub n: u32,
     pub need: u32,
@@ -22,27 +23,15 @@ pub struct Confirm {
     pub count: u32,
 }
 
-// A constructor's answer: refusal 0 is none.
-#[derive(Clone, Copy)]
-pub struct ConfirmMade {
-    pub state: Confirm,
-    pub refusal: u32,
-}
-
-// The word that is shown, or a refusal's number.
-#[derive(Clone, Copy)]
+// The word that is shown, or a refusal.
+#[derive(Clone, Copy, Debug, PartialEq, Eq)]
 pub enum ConfirmAnswer {
     Confirmed(u32),
     Held(u32),
-    Refused(u32),
+    Refused(Refusal),
 }
 
-// A step's answer, beside the state that it leaves.
-#[derive(Clone, Copy)]
-pub struct ConfirmStep {
-    pub state: Confirm,
-    pub answer: ConfirmAnswer,
-}
+pub type ConfirmStep = Step<Confirm, ConfirmAnswer>;
 
 impl ConfirmAnswer {
     // The refusal's number, 0 for none.
@@ -52,7 +41,7 @@ impl ConfirmAnswer {
         match self {
             ConfirmAnswer::Confirmed(_) => 0,
             ConfirmAnswer::Held(_) => 0,
-            ConfirmAnswer::Refused(k) => k,
+            ConfirmAnswer::Refused(refusal) => refusal.into(),
         }
     }
 
@@ -93,20 +82,18 @@ impl Confirm {
     }
 
     // A fresh state from a width, a count and an initial word.
-    pub fn from_word(n: u32, need: u32, word: u32) -> ConfirmMade
+    pub fn from_word(n: u32, need: u32, word: u32) -> Made<Confirm>
         ensures { result ≡ made_of n need word }
     {
-        let refusal = rules::make_refusal(rules::bad_count(need), n, word);
-        if refusal != 0 {
-            let state = Confirm::fresh(1, 1, 0);
-            return ConfirmMade { state, refusal };
+        let refused = rules::make_refusal(rules::bad_count(need), n, word);
+        if let Err(refusal) = refused {
+            return Made::refused(refusal, Confirm::fresh(1, 1, 0));
         }
-        let state = Confirm::fresh(n, need, word);
-        ConfirmMade { state, refusal }
+        Made::taken(Confirm::fresh(n, need, word))
     }
 
     // A fresh state from all ones within the width.
-    pub fn new(n: u32, need: u32) -> ConfirmMade
+    pub fn new(n: u32, need: u32) -> Made<Confirm>
         ensures { result ≡ made_of n need (default_word n) }
     {
         Confirm::from_word(n, need, rules::default_word(n))
@@ -115,7 +102,7 @@ impl Confirm {
     fn held(self, input: u32, count: u32) -> ConfirmStep
         ensures { result ≡ held self input count }
     {
-        ConfirmStep {
+        Step {
             state: Confirm {
                 n: self.n,
                 need: self.need,
@@ -130,7 +117,7 @@ impl Confirm {
     fn confirmed(self, input: u32) -> ConfirmStep
         ensures { result ≡ confirmed self input }
     {
-        ConfirmStep {
+        Step {
             state: Confirm {
                 n: self.n,
                 need: self.need,
@@ -166,10 +153,10 @@ impl Confirm {
         let counted = rules::counted(self.need, self.count);
         let refused = !rules::admits(counted, self.n, words);
         if refused {
-            let number = rules::step_number(rules::bad_count(self.need), self.n, input);
-            return ConfirmStep {
+            let refusal = rules::step_refusal(rules::bad_count(self.need), self.n, input);
+            return Step {
                 state: self,
-                answer: ConfirmAnswer::Refused(number),
+                answer: ConfirmAnswer::Refused(refusal),
             };
         }
         self.clauses(input)
@@ -191,10 +178,7 @@ pub fn run(
 {
     let len = samples.len();
     let unequal = (len != words.len()) | (len != marks.len()) | (len != counts.len());
-    let answer = trace::judge(rules::bad_count(need), n, word, samples, unequal);
-    let RunAnswer::Done = answer else {
-        return answer;
-    };
+    trace::judge(rules::bad_count(need), n, word, samples, unequal)?;
     blocks::write_steps(Confirm::fresh(n, need, word), samples, words, marks, counts);
-    RunAnswer::Done
+    Ok(())
 }

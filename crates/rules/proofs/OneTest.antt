@@ -12,6 +12,8 @@ use lib.Dec.{ltb, leb, eqb}
 use borrow.Author.Tests.{ltb-true, ltb-false, leb-true, leb-false, lt-ltb, le-ltb, eq-eqb, ne_eqb}
 use Rattle.std.specs.Prelude.{if◌then◌else◌}
 use Rattle.rules.specs.Limits.{bad_count, bad_width, outside}
+use Rattle.rules.specs.declared.refusal.Refusal.{Refusal}
+use Rattle.rules.specs.Refusal.{refusal_of}
 use Rattle.rules.specs.Table.{Row, ◌when◌, first, answer, or_else}
 use Rattle.rules.specs.Refusals.{step_rows, counted, admits}
 use Rattle.rules.proofs.Width.{outside_or}
@@ -94,8 +96,8 @@ module _ (m : Bool) (n : ℕ) (o d : Bool) where
 
 -- so code that has the sample's words in one, and takes the last row as true, refuses as the table does
 pub not_taken_lem :
-    (m : Bool) (n sample : ℕ) {o : Bool} (d : Bool) → outside n sample ≡ o → {A : Type 0} (refuse : ℕ → A) (work : A)
-    → eqb (first (step_rows m n o d)) 0 ≡ false → refuse (first (step_rows m n (outside n sample) true)) ≡ answer (first (step_rows m n o d)) refuse work
+    (m : Bool) (n sample : ℕ) {o : Bool} (d : Bool) → outside n sample ≡ o → {A : Type 0} (refuse : Refusal → A) (work : A)
+    → eqb (first (step_rows m n o d)) 0 ≡ false → refuse (refusal_of (first (step_rows m n (outside n sample) true))) ≡ answer (first (step_rows m n o d)) refuse work
 not_taken_lem m n sample {o} d outlying refuse work e = rw (outlying, e, refused_number m n o d e)
 
 -- `m` is row 1's test and `l` what row 7 asks of the counts, the sample's words are in one and the state's in another; `o` and `d`
@@ -113,7 +115,7 @@ module _
 
     -- the two ways to answer, as code finds them by the one test
     pub by_one_test :
-        {A : Type 0} (refuse : ℕ → A) (work : A)
+        {A : Type 0} (refuse : Refusal → A) (work : A)
         → (admits counts n (bit_or sample stored) ≡ true → work ≡ answer (first rows) refuse work)
-        × (admits counts n (bit_or sample stored) ≡ false → refuse (first (step_rows m n (outside n sample) true)) ≡ answer (first rows) refuse work)
+        × (admits counts n (bit_or sample stored) ≡ false → refuse (refusal_of (first (step_rows m n (outside n sample) true))) ≡ answer (first rows) refuse work)
     by_one_test refuse work = (λ e. rw (← admits_exactly, e), λ e. not_taken_lem m n sample d outlying refuse work (sym admits_exactly ∙ e))

@@ -9,8 +9,9 @@ use lib.Dec.{eqb}
 use borrow.Author.Tests.{eqb-true}
 use Rattle.std.specs.Prelude.{if◌then◌else◌}
 use Rattle.rules.specs.Limits.{bad_width, outside, default_word}
-use Rattle.rules.specs.Table.{Row, first, answer, numbered, rising, Given, LowestOf, ◌and◌}
-use Rattle.rules.specs.Refusal.{refusal_of, is_refusal, known}
+use Rattle.rules.specs.Table.{Row, first, answer, numbered, known, rising, Given, LowestOf, ◌and◌}
+use Rattle.rules.specs.declared.refusal.Refusal.{Refusal}
+use Rattle.rules.specs.Refusal.{number, refusal_of}
 use Rattle.rules.specs.Refusals.{make_rows, new_rows, step_rows, run_rows}
 use Rattle.rules.proofs.Default.{default_inside, default_is}
 use Rattle.rules.proofs.Tables.{exactly, lowest, works, own_number}
@@ -44,18 +45,18 @@ module _ (miscounted : Bool) (n word : ℕ) where
   )
 
   -- a constructor that refuses nothing does its work
-  pub makes : {A : Type 0} (refuse : ℕ → A) (work : A) → Makes → answer (first making) refuse work ≡ work
-  makes refuse work m = sym (works refuse work refl (make_0.1 m))
+  pub makes : {A : Type 0} (refuse : Refusal → A) (work : A) → Makes → answer (first making) refuse work ≡ work
+  makes refuse work m = sym (works refuse work _ (make_0.1 m))
 
   -- and where it shows no refusal, its tests were all false
   pub accepted :
-      {A : Type 0} (number_of : A → ℕ) (refuse : ℕ → A) (work : A)
-      → ((k : ℕ) → is_refusal k ≡ true → number_of (refuse k) ≡ k)
+      {A : Type 0} (number_of : A → ℕ) (refuse : Refusal → A) (work : A)
+      → ((refusal : Refusal) → number_of (refuse refusal) ≡ number refusal)
       → number_of work ≡ 0
       → number_of (answer (first making) refuse work) ≡ 0
       → Makes
   unfolding known refusal_of
-  accepted number_of refuse work own none e = make_0.0 (sym (own_number number_of making refuse work refl own none) ∙ e)
+  accepted number_of refuse work given none e = make_0.0 (sym (own_number number_of making refuse work refl given none) ∙ e)
 
   -- where several apply, the lowest number is given
   pub make_lowest : LowestOf making
@@ -91,10 +92,10 @@ module _ (miscounted : Bool) (n : ℕ) where
 
   -- and where it gives none, the work is done from all ones
   pub from_default_lem :
-      {A : Type 0} (refuse work : ℕ → A)
+      {A : Type 0} (refuse : Refusal → A) (work : ℕ → A)
       → answer (first (make_rows miscounted n (default_word n))) refuse (work (default_word n)) ≡ answer (first newing) refuse (work (2 ^ n - 1))
   from_default_lem refuse work = rw same_number (go (eqb (first newing) 0) refl) where
-    go : (b : Bool) → eqb (first newing) 0 ≡ b → (if b then work (default_word n) else refuse (first newing)) ≡ (if b then work (2 ^ n - 1) else refuse (first newing))
+    go : (b : Bool) → eqb (first newing) 0 ≡ b → (if b then work (default_word n) else refuse (refusal_of (first newing))) ≡ (if b then work (2 ^ n - 1) else refuse (refusal_of (first newing)))
     go true e = ap work (default_is n (new_0.0 (eqb-true (first newing) 0 e)).1)
     go false e = refl
 

@@ -12,8 +12,8 @@ use Rattle.std.specs.Prelude.{if◌then◌else◌, Result, Ok, Err}
 use Rattle.rules.specs.Choose.{choose◌then◌else◌}
 use Rattle.rules.specs.declared.refusal.Refusal.{Refusal}
 use Rattle.rules.specs.declared.refusal.Refusal.TheVariants.{Count, Width, TooLong, Lengths, Word, Sample, State, Times, TooMany, Reading, NotRecording}
-use Rattle.rules.specs.Refusal.{number, refusal_of, is_refusal, known, told}
-use Rattle.rules.specs.Table.{Row, ◌when◌, first, answer, numbered, rising, has, Given, LowestOf, or_else, through}
+use Rattle.rules.specs.Refusal.{number, refusal_of, is_refusal, told}
+use Rattle.rules.specs.Table.{Row, ◌when◌, first, answer, numbered, known, rising, has, Given, LowestOf, or_else, through}
 
 pub and_both : (a b : Bool) → a && b ≡ true → (a ≡ true) × (b ≡ true)
 and_both true b e = (refl, e)
@@ -84,38 +84,40 @@ lowest_above low (k when false ∷ rows) r j (Memᴰ.tail m) =
 pub lowest : (rows : List Row) → rising 0 rows ≡ true → LowestOf rows
 lowest = lowest_above 0
 
--- the two ways to answer, as code finds them: k is the table's number
-module _ {A : Type 0} (refuse : ℕ → A) (work : A) {number k : ℕ} (found : k ≡ number) where
-  pub refuses : (k ≡ 0 → ⊥) → refuse k ≡ answer number refuse work
-  refuses h = rw (← found, ne_eqb k 0 h)
-
-  pub works : k ≡ 0 → work ≡ answer number refuse work
-  works e = rw (← found, e)
-
--- and what the number tells, as code finds it by `?`
+-- what a table's number tells, as code finds it by `?` or a match
 pub told_err : {k : ℕ} {refusal : Refusal} → told k ≡ Err refusal → (k ≡ 0 → ⊥) × (refusal_of k ≡ refusal)
+unfolding told
 told_err {k} {refusal} = go (eqb k 0) refl where
   go : (b : Bool) → eqb k 0 ≡ b → ◌≡◌ {A = Result (Unit {0}) Refusal} (if b then Ok tt else Err (refusal_of k)) (Err refusal) → (k ≡ 0 → ⊥) × (refusal_of k ≡ refusal)
   go true q e = absurd (cc)
   go false q e = (eqb-false k 0 q, cc)
 
 pub told_ok : {k : ℕ} {x : Unit {0}} → told k ≡ Ok x → k ≡ 0
+unfolding told
 told_ok {k} {x} = go (eqb k 0) refl where
   go : (b : Bool) → eqb k 0 ≡ b → ◌≡◌ {A = Result (Unit {0}) Refusal} (if b then Ok tt else Err (refusal_of k)) (Ok x) → k ≡ 0
   go true q e = eqb-true k 0 q
   go false q e = absurd (cc)
 
+-- the two ways to answer
+module _ {A : Type 0} (refuse : Refusal → A) (work : A) where
+  pub refuses : (k : ℕ) {refusal : Refusal} → told k ≡ Err refusal → refuse refusal ≡ answer k refuse work
+  refuses k e = let r = told_err e in rw (ne_eqb k 0 r.0, r.1)
+
+  pub works : (k : ℕ) → k ≡ 0 → work ≡ answer k refuse work
+  works k e = rw e
+
 -- what holds of every refusal, and of the work where no number is given, holds of the answer
 pub either_answer :
-    {A : Type 0} (P : A → Type 0) (number : ℕ) (refuse : ℕ → A) (work : A)
-    → ((k : ℕ) → (k ≡ 0 → ⊥) → P (refuse k))
+    {A : Type 0} (P : A → Type 0) (number : ℕ) (refuse : Refusal → A) (work : A)
+    → ((refusal : Refusal) → P (refuse refusal))
     → (number ≡ 0 → P work)
     → P (answer number refuse work)
 either_answer P number refuse work refused worked = go (eqb number 0) refl
   where
-    go : (b : Bool) → eqb number 0 ≡ b → P (if b then work else refuse number)
+    go : (b : Bool) → eqb number 0 ≡ b → P (if b then work else refuse (refusal_of number))
     go true q = worked (eqb-true number 0 q)
-    go false q = refused number (eqb-false number 0 q)
+    go false q = refused (refusal_of number)
 
 -- a refusal has a number, and where a number is a refusal's it is that refusal's own
 positive : (refusal : Refusal) → 0 < number refusal
@@ -132,6 +134,9 @@ positive = elim [
   | Reading ↦ omega arith
   | NotRecording ↦ omega arith
 ]
+
+pub never_zero : (refusal : Refusal) → number refusal ≡ 0 → ⊥
+never_zero refusal e = omega (arith, positive refusal, e)
 
 pub own : (k : ℕ) → is_refusal k ≡ true → number (refusal_of k) ≡ k
 own k e = eqb-true (number (refusal_of k)) k e
@@ -151,26 +156,26 @@ known_first (k when false ∷ rows) u h = known_first rows (and_both (is_refusal
 
 -- an answer's number is its table's, where a refusal has its own number and the work none
 pub own_number :
-    {A : Type 0} (number_of : A → ℕ) (rows : List Row) (refuse : ℕ → A) (work : A)
+    {A : Type 0} (number_of : A → ℕ) (rows : List Row) (refuse : Refusal → A) (work : A)
     → known rows ≡ true
-    → ((k : ℕ) → is_refusal k ≡ true → number_of (refuse k) ≡ k)
+    → ((refusal : Refusal) → number_of (refuse refusal) ≡ number refusal)
     → number_of work ≡ 0
     → number_of (answer (first rows) refuse work) ≡ first rows
-own_number {A} number_of rows refuse work u own none = go (eqb (first rows) 0) refl
+own_number {A} number_of rows refuse work u given none = go (eqb (first rows) 0) refl
   where
-    go : (b : Bool) → eqb (first rows) 0 ≡ b → number_of (if b then work else refuse (first rows)) ≡ first rows
+    go : (b : Bool) → eqb (first rows) 0 ≡ b → number_of (if b then work else refuse (refusal_of (first rows))) ≡ first rows
     go true q = none ∙ sym (eqb-true (first rows) 0 q)
-    go false q = own (first rows) (known_first rows u (eqb-false (first rows) 0 q))
+    go false q = given (refusal_of (first rows)) ∙ own (first rows) (known_first rows u (eqb-false (first rows) 0 q))
 
 -- so a call answers with number k exactly when its table says so
 pub exactly_when :
-    {A : Type 0} (number_of : A → ℕ) (rows : List Row) (refuse : ℕ → A) (work : A)
+    {A : Type 0} (number_of : A → ℕ) (rows : List Row) (refuse : Refusal → A) (work : A)
     → known rows ≡ true
-    → ((k : ℕ) → is_refusal k ≡ true → number_of (refuse k) ≡ k)
+    → ((refusal : Refusal) → number_of (refuse refusal) ≡ number refusal)
     → number_of work ≡ 0
     → (k : ℕ) → (number_of (answer (first rows) refuse work) ≡ k) ↔ Given k rows
-exactly_when number_of rows refuse work u own none k =
-    rw (own_number number_of rows refuse work u own none) (exactly rows (known_numbered rows u) k)
+exactly_when number_of rows refuse work u given none k =
+    rw (own_number number_of rows refuse work u given none) (exactly rows (known_numbered rows u) k)
 
 -- code that goes through the rows, line by line, finds the table's number
 kept : (r : ℕ) (rows : List Row) → eqb r 0 ≡ false → through r rows ≡ r

@@ -1,6 +1,5 @@
 -- The refusals of document 01 by name, and their numbers: "given exactly when" is said of the numbers, in tables.
-use Rattle.std.specs.Prelude.{ℕ, List, [], ◌∷◌, Bool, true, ◌&&◌, eqb, if◌then◌else◌, Option, Some, None, Result, Ok, Err}
-use Rattle.rules.specs.Table.{Row, ◌when◌}
+use Rattle.std.specs.Prelude.{ℕ, Bool, eqb, if◌then◌else◌, Option, Some, None, Result, Ok, Err}
 use Rattle.rules.specs.declared.refusal.Refusal.{Refusal}
 use Rattle.rules.specs.declared.refusal.Refusal.TheVariants.{
   Count,
@@ -45,16 +44,12 @@ refusal_of k =
     if eqb k 11 then Reading else
     NotRecording
 
--- a number that a refusal has, and a table whose rows all have one
+-- a number that a refusal has
 abbrev pub is_refusal : ℕ → Bool
 is_refusal k = eqb (number (refusal_of k)) k
 
-unfoldable pub known : List Row → Bool
-known [] = true
-known (k when b ∷ rows) = is_refusal k && known rows
-
 -- what the number of a table tells: 0 is no refusal
-abbrev pub told : ℕ → Result (Unit {0}) Refusal
+unfoldable pub told : ℕ → Result (Unit {0}) Refusal
 told k = if eqb k 0 then Ok tt else Err (refusal_of k)
 
 -- one row: refused where its test is true

@@ -1,5 +1,7 @@
 -- A call's refusals as a table of rows, each a number and its test; the first row whose test is true gives the number.
 use Rattle.rules.specs.Choose.{choose◌then◌else◌}
+use Rattle.rules.specs.declared.refusal.Refusal.{Refusal}
+use Rattle.rules.specs.Refusal.{refusal_of, is_refusal}
 use Rattle.std.specs.Prelude.{ℕ, ◌<◌, ◌≤◌, ◌≡◌, ◌⊎◌, Bool, true, false, ◌&&◌, ◌||◌, ltb, eqb, if◌then◌else◌}
 use mathlib.Core.List.{List, [], ◌∷◌, Memᴰ}
 
@@ -13,13 +15,18 @@ first [] = 0
 first (k when b ∷ rows) = if b then k else first rows
 
 -- a call's answer: its refusal if there is one, its work if not
-abbrev pub answer : {A : Type 0} → ℕ → (ℕ → A) → A → A
-answer number refuse work = if eqb number 0 then work else refuse number
+abbrev pub answer : {A : Type 0} → ℕ → (Refusal → A) → A → A
+answer number refuse work = if eqb number 0 then work else refuse (refusal_of number)
 
 -- no row has the number 0
 unfoldable pub numbered : List Row → Bool
 numbered [] = true
 numbered (k when b ∷ rows) = ltb 0 k && numbered rows
+
+-- the number of each row is a refusal's
+unfoldable pub known : List Row → Bool
+known [] = true
+known (k when b ∷ rows) = is_refusal k && known rows
 
 -- the numbers rise, each above low: then the first that applies is the lowest
 unfoldable pub rising : ℕ → List Row → Bool

@@ -1,7 +1,7 @@
 // Limits, words and refusals: what every other room tests and answers by.
 #![tactic(auto)]
 
-mod made;
+mod answers;
 mod refusal;
 
 ghost use Rattle.std.specs.Prelude.{◌≡◌, true, ◌-◌};
@@ -10,7 +10,7 @@ ghost use Rattle.rules.specs.Table.{first};
 ghost use Rattle.rules.specs.Refusal.{refusal_of, told};
 ghost use Rattle.rules.specs.Refusals.{make_rows, step_rows, counted, admits};
 
-pub use made::Made;
+pub use answers::{Made, Step};
 pub use refusal::Refusal;
 
 // The limits: of a count N, of a width n, and of a trace's samples.
@@ -70,7 +70,7 @@ pub fn last(need: u32) -> u32
 }
 
 // The table of every constructor: a bad count, the width, the initial word.
-#[tactic(auto, unfolding(crate::specs::Table::first, crate::specs::Refusal::refusal_of))]
+#[tactic(auto, unfolding(crate::specs::Table::first, crate::specs::Refusal::refusal_of, crate::specs::Refusal::told))]
 pub fn make_refusal(miscounted: bool, n: u32, word: u32) -> Result<(), Refusal>
     ensures { result ≡ told (first (make_rows miscounted n word)) }
 {

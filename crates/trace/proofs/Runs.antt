@@ -11,8 +11,9 @@ use Rattle.std.specs.Prelude.{if◌then◌else◌, position, Option, Some, None,
 use Rattle.std.specs.Result.{IsErrAnd}
 use Rattle.trace.specs.declared.Refused.{Refused}
 use Rattle.rules.specs.declared.refusal.Refusal.{Refusal}
-use Rattle.rules.specs.Refusal.{number, refusal_of, is_refusal, known, told}
-use Rattle.rules.specs.Table.{Row, ◌when◌, first, answer, has, Given, or_else}
+use Rattle.rules.specs.declared.refusal.Refusal.TheVariants.{Sample}
+use Rattle.rules.specs.Refusal.{number, refusal_of, is_refusal, told}
+use Rattle.rules.specs.Table.{Row, ◌when◌, first, answer, known, has, Given, or_else}
 use Rattle.rules.specs.Refusals.{run_rows}
 use Rattle.rules.proofs.Readings.{Makes, Runs, run_exactly, run_0}
 use Rattle.rules.proofs.Tables.{foreign, exactly_when, one_more, own, known_first, known_numbered, told_err}
@@ -44,7 +45,14 @@ module _ {X : Type 0} (rows : List Row) (named : known rows ≡ true) (no_six : 
   pub early_row_refuses : {refusal : Refusal} → told (first rows) ≡ Err refusal → Err (at_once refusal) ≡ whole
   early_row_refuses {refusal} e =
       let r = told_err e in
-      simp (one_more rows (known_numbered rows named) 6 (somewhere test xs), ne_eqb (first rows) 0 r.0, ne_eqb (first rows) 6 (foreign 6 rows (omega arith) no_six), r.1)
+      let numbered : number refusal ≡ first rows = ap number (sym r.1) ∙ own (first rows) (known_first rows named r.0) in
+      simp (
+        one_more rows (known_numbered rows named) 6 (somewhere test xs),
+        ne_eqb (first rows) 0 r.0,
+        r.1,
+        numbered,
+        ne_eqb (first rows) 6 (foreign 6 rows (omega arith) no_six),
+      )
 
   -- or the samples decide
   module _ (e : first rows ≡ 0) where
@@ -64,18 +72,18 @@ module _ {X : Type 0} (rows : List Row) (named : known rows ≡ true) (no_six : 
   abbrev SampleTold : RunResult → Type 0
   SampleTold r = (run_number r ≡ 6 → Smallest test xs (run_sample r)) × ((run_number r ≡ 6 → ⊥) → run_sample r ≡ 0)
 
-  six : number (refusal_of 6) ≡ 6
+  six : refusal_of 6 ≡ Sample
   unfolding refusal_of
   six = refl
 
   pub sample_told : SampleTold whole
   sample_told = rw (one_more rows (known_numbered rows named) 6 _) (go (first rows) (somewhere test xs) (foreign 6 rows (omega arith) no_six) (known_first rows named) refl) where
     go : (k : ℕ) (b : Bool) → (k ≡ 6 → ⊥) → ((k ≡ 0 → ⊥) → is_refusal k ≡ true) → somewhere test xs ≡ b → SampleTold (answer (or_else k 6 b) (not_run (first_where test xs)) done)
-    go zero true n f q = (λ e. smallest test xs q, λ h. absurd (h six))
+    go zero true n f q = rw six (λ e. smallest test xs q, λ h. absurd (h refl))
     go zero false n f q = (λ e. absurd (n e), λ h. refl)
     go (suc k) b n f q =
         let u : suc k ≡ 0 → ⊥ = λ e. omega arith in
-        simp (ne_eqb (suc k) 0 u, ne_eqb (suc k) 6 n) (λ e. absurd (n (sym (own (suc k) (f u)) ∙ e)), λ h. refl)
+        simp (ne_eqb (suc k) 0 u, own (suc k) (f u), ne_eqb (suc k) 6 n) (λ e. absurd (n e), λ h. refl)
 
 module _ (miscounted : Bool) (n word : ℕ) (long unequal : Bool) where
   -- the number before a sample is read, where row 6 is false, and the rows that give it
@@ -101,7 +109,7 @@ module _ (miscounted : Bool) (n word : ℕ) (long unequal : Bool) where
     -- each number is given exactly when the table says so
     pub answer_exactly : (k : ℕ) → (run_number answered ≡ k) ↔ Given k (run_rows miscounted n word long unequal (somewhere (out n) xs))
     unfolding run_answer known refusal_of
-    answer_exactly = exactly_when run_number _ (not_run (first_where (out n) xs)) done refl own refl
+    answer_exactly = exactly_when run_number _ (not_run (first_where (out n) xs)) done refl (λ r. refl) refl
 
     pub answer_done : answered ≡ done → Runs miscounted n word long unequal (somewhere (out n) xs)
     answer_done e = (run_0 miscounted n word long unequal _).0 ((run_exactly miscounted n word long unequal _ 0).1 ((answer_exactly 0).0 (ap run_number e)))

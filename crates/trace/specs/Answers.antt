@@ -4,7 +4,7 @@ use mathlib.Core.List.{List, zip}
 use Rattle.rules.specs.declared.refusal.Refusal.{Refusal}
 use Rattle.rules.specs.declared.refusal.Refusal.TheVariants.{Sample}
 use Rattle.rules.specs.Limits.{too_long, differ}
-use Rattle.rules.specs.Refusal.{number, refusal_of}
+use Rattle.rules.specs.Refusal.{number}
 use Rattle.rules.specs.Refusals.{run_rows}
 use Rattle.rules.specs.Table.{first, answer}
 use Rattle.trace.specs.Samples.{first_where, somewhere, outside_pair, outside_four}
@@ -29,8 +29,8 @@ run_sample (Ok x) = 0
 run_sample (Err r) = r.sample
 
 -- refused: the sample number is 0 except with 6, and then the smallest
-abbrev pub not_run : ℕ → ℕ → RunResult
-not_run smallest number = refused (refusal_of number) (if eqb number 6 then smallest else 0)
+abbrev pub not_run : ℕ → Refusal → RunResult
+not_run smallest refusal = refused refusal (if eqb (number refusal) 6 then smallest else 0)
 
 -- before a sample is looked at
 abbrev pub at_once : Refusal → Refused

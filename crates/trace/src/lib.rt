@@ -52,7 +52,7 @@ pub fn sample(answer: RunAnswer) -> u32
 }
 
 // The table of every run but for its last row: no sample has been read yet.
-#[tactic(auto, unfolding(rules::specs::Table::first, rules::specs::Refusal::refusal_of))]
+#[tactic(auto, unfolding(rules::specs::Table::first, rules::specs::Refusal::refusal_of, rules::specs::Refusal::told))]
 fn run_refusal(
     miscounted: bool,
     n: u32,

@@ -1,4 +1,4 @@
-// A constructor's answer, for every kind of state.
+// What a constructor and a step answer, for every kind of state.
 use crate::Refusal;
 
 // The state that was made, or with a refusal the one that document 01 has beside its number.
@@ -6,4 +6,11 @@ use crate::Refusal;
 pub struct Made<S> {
     pub state: S,
     pub refusal: Option<Refusal>,
+}
+
+// What a step shows, beside the state that it leaves.
+#[derive(Clone, Copy, Debug, PartialEq, Eq)]
+pub struct Step<S, A> {
+    pub state: S,
+    pub answer: A,
 }
