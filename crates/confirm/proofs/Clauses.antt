@@ -7,7 +7,7 @@ use lib.Dec.{ltb, eqb}
 use borrow.Author.Tests.{eq-eqb}
 use Rattle.std.specs.Prelude.{if◌then◌else◌}
 use Rattle.confirm.specs.declared.Confirm.{Confirm}
-use Rattle.confirm.specs.declared.ConfirmStep.{ConfirmStep}
+use Rattle.confirm.specs.Answers.{ConfirmStep}
 use Rattle.confirm.specs.declared.ConfirmAnswer.TheVariants.{Confirmed}
 use Rattle.confirm.specs.Confirm.{held, confirmed, clauses}
 use Rattle.confirm.specs.Run.{shown_word, shown_mark}

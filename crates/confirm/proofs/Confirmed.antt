@@ -11,7 +11,7 @@ use lib.ListN.{length, get_or}
 use borrow.Author.Tests.{eqb-true, eq-eqb}
 use Rattle.trace.proofs.Rows.{tests, Counting, row_shown}
 use Rattle.confirm.specs.declared.Confirm.{Confirm}
-use Rattle.confirm.specs.declared.ConfirmStep.{ConfirmStep}
+use Rattle.confirm.specs.Answers.{ConfirmStep}
 use Rattle.confirm.specs.Confirm.{fresh, clauses}
 use Rattle.confirm.specs.Run.{leaves, steps, shown_mark}
 use Rattle.confirm.specs.Standing.{Standing}

@@ -10,7 +10,7 @@ use borrow.Author.Tests.{le-ltb, ltb-true}
 use Rattle.rules.specs.Limits.{bad_count, bad_width, outside}
 use Rattle.rules.specs.Table.{first}
 use Rattle.rules.proofs.Readings.{Makes, makes, run_makes}
-use Rattle.trace.specs.declared.RunAnswer.TheVariants.{Done}
+use Rattle.trace.specs.Answers.{done}
 use Rattle.trace.proofs.Runs.{answer_done}
 use Rattle.trace.proofs.Samples.{nowhere}
 use Rattle.trace.proofs.Steps.{agree}
@@ -62,7 +62,7 @@ module _ (n need word : ℕ) (m : Makes (bad_count need) n word) where
 
 pub run_is_steps :
     (n need word : ℕ) (samples words marks counts words' marks' counts' : List ℕ)
-    → Ran n need word samples words marks counts Done words' marks' counts' → Stepwise n need word samples words' marks' counts'
+    → Ran n need word samples words marks counts done words' marks' counts' → Stepwise n need word samples words' marks' counts'
 run_is_steps n need word samples words marks counts words' marks' counts' ran =
     let fine = answer_done _ _ _ _ _ outside samples (sym ran.answered) in
     let m = run_makes _ _ _ _ _ _ fine in

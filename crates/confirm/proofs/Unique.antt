@@ -7,7 +7,7 @@ use Rattle.rules.specs.Limits.{default_word}
 use Rattle.rules.specs.Promise.{Fixes}
 use Rattle.rules.proofs.Promise.{fixes}
 use Rattle.trace.specs.Answers.{after}
-use Rattle.trace.specs.declared.RunAnswer.{RunAnswer}
+use Rattle.trace.specs.Answers.{RunResult}
 use Rattle.confirm.specs.Answers.{number_of, word_of, mark_of}
 use Rattle.confirm.specs.Confirm
 use Rattle.confirm.specs.Confirm.{fresh, made_of, step_of}
@@ -44,7 +44,7 @@ step_unique = fixes (λ a z e p. p)
 
 -- a run: its answer, and the words, marks and counts as it leaves them
 abbrev pub Seen : Type 0
-Seen = RunAnswer × List ℕ × List ℕ × List ℕ
+Seen = RunResult × List ℕ × List ℕ × List ℕ
 
 abbrev pub ran : ℕ → ℕ → ℕ → List ℕ → List ℕ → List ℕ → List ℕ → Seen
 ran n need w samples words marks counts =

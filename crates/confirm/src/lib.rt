@@ -85,11 +85,16 @@ impl Confirm {
     pub fn from_word(n: u32, need: u32, word: u32) -> Made<Confirm>
         ensures { result ≡ made_of n need word }
     {
-        let refused = rules::make_refusal(rules::bad_count(need), n, word);
-        if let Err(refusal) = refused {
-            return Made::refused(refusal, Confirm::fresh(1, 1, 0));
+        match rules::make_refusal(rules::bad_count(need), n, word) {
+            Ok(()) => Made {
+                state: Confirm::fresh(n, need, word),
+                refusal: None,
+            },
+            Err(refusal) => Made {
+                state: Confirm::fresh(1, 1, 0),
+                refusal: Some(refusal),
+            },
         }
-        Made::taken(Confirm::fresh(n, need, word))
     }
 
     // A fresh state from all ones within the width.
@@ -104,11 +109,9 @@ impl Confirm {
     {
         Step {
             state: Confirm {
-                n: self.n,
-                need: self.need,
                 input,
-                output: self.output,
                 count,
+                ..self
             },
             answer: ConfirmAnswer::Held(self.output),
         }
@@ -119,11 +122,9 @@ impl Confirm {
     {
         Step {
             state: Confirm {
-                n: self.n,
-                need: self.need,
                 input,
                 output: input,
-                count: self.count,
+                ..self
             },
             answer: ConfirmAnswer::Confirmed(input),
         }

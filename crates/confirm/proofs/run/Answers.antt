@@ -8,6 +8,6 @@ use Rattle.confirm.proofs.run.Goals as goal
 
 pub write_steps-requires : goal.write_steps-requires
 write_steps-requires c =
-    let alike = (answer_done _ _ _ _ _ outside _ (sym c.judge-answer.ensures ∙ c.in-Done.is)).alike in
+    let alike = (answer_done _ _ _ _ _ outside _ (sym c.judge.ensures ∙ c.in_ok-judge.was)).alike in
     let p = or_each (or_each (same _ _) (same _ _)) (same _ _) alike in
     (p.0.0, p.0.1, p.1)

@@ -5,6 +5,7 @@ use Prim.Native.Nat.{ℕ, ◌-◌}
 use lib.Bits.{bit_or}
 use lib.Dec.{ltb}
 use Rattle.rules.specs.Limits.{bad_count, outside}
+use Rattle.rules.specs.Refusal.{refusal_of}
 use Rattle.rules.specs.Table.{first}
 use Rattle.rules.specs.Refusals.{step_rows, counted, admits}
 use Rattle.rules.proofs.OneTest.{by_one_test}
@@ -20,7 +21,7 @@ admitted s x = admits (counted s.need s.count) s.n (bit_or x (bit_or s.input s.o
 ways :
     (s : Confirm) (x : ℕ)
     → (admitted s x ≡ true → clauses s x ≡ step_of s x)
-    × (admitted s x ≡ false → not_taken s (first (step_rows (bad_count s.need) s.n (outside s.n x) true)) ≡ step_of s x)
+    × (admitted s x ≡ false → not_taken s (refusal_of (first (step_rows (bad_count s.need) s.n (outside s.n x) true))) ≡ step_of s x)
 unfolding step_of
 ways s x =
     let spoilt : ltb (s.need - 1) s.count || outside s.n (bit_or s.input s.output) ≡ bad_state s =
@@ -37,7 +38,7 @@ pub returns-then-refused : goal.returns-then-refused
 returns-then-refused c =
     let a = c.args in
     let one = found a.self a.input c.counted-counted.ensures c.admits-refused.ensures in
-    rw (c.step_number-number.ensures, c.bad_count.ensures) ((ways a.self a.input).1 (sym one ∙ c.if-refused.true))
+    rw (c.step_refusal-refusal.ensures, c.bad_count.ensures) ((ways a.self a.input).1 (sym one ∙ c.if-refused.true))
 
 pub returns : goal.returns
 returns c =

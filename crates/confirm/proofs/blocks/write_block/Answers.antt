@@ -11,7 +11,7 @@ use Rattle.trace.specs.Samples.{somewhere}
 use Rattle.trace.proofs.Samples.{nowhere}
 use Rattle.trace.proofs.Steps.{unmoved, unmoved_left}
 use Rattle.confirm.specs.declared.ConfirmAnswer.TheVariants.{Confirmed}
-use Rattle.confirm.specs.declared.ConfirmStep.{ConfirmStep}
+use Rattle.confirm.specs.Answers.{ConfirmStep}
 use Rattle.confirm.specs.Confirm.{clauses}
 use Rattle.confirm.specs.Run.{leaves, shown_word, shown_mark, shown_count}
 use Rattle.confirm.proofs.Clauses.{settled}
