@@ -14,8 +14,8 @@ use Rattle.rules.proofs.Tables.{or_neither}
 use Rattle.trace.specs.Answers.{after}
 use Rattle.trace.specs.Samples.{outside_pair}
 use Rattle.trace.specs.Trace.{left}
-use Rattle.trace.specs.declared.RunAnswer.{RunAnswer}
-use Rattle.trace.specs.declared.RunAnswer.TheVariants.{Done}
+use Rattle.trace.specs.Answers.{RunResult}
+use Rattle.trace.specs.Answers.{done}
 use Rattle.trace.proofs.Columns.{zip_length, zip_at}
 use Rattle.trace.proofs.Runs.{answer_done}
 use Rattle.trace.proofs.Samples.{nowhere}
@@ -81,7 +81,7 @@ steps_not_neither n =
 
 -- so a run's answer and slices are all that its promise asks for
 pub promised :
-    {n need word : ℕ} {a b words marks which : List ℕ} {r : RunAnswer} {words' marks' which' : List ℕ}
+    {n need word : ℕ} {a b words marks which : List ℕ} {r : RunResult} {words' marks' which' : List ℕ}
     → let taken = steps (fresh n need word) (zip a b) in
     r ≡ answer_of n need word a b words marks which → words' ≡ after r words (map shown_word taken) → marks' ≡ after r marks (map shown_mark taken)
     → which' ≡ after r which (map shown_which taken) → Ran n need word a b words marks which r words' marks' which'
@@ -99,7 +99,7 @@ promised {n} {need} {word} {a} {b} is in_words_lem in_marks in_which =
 
 -- what a run says, by its contract: at each sample by the samples before it, and by hand, from the word that stands written beside it
 module _
-    (n need word : ℕ) (a b words marks which words' marks' which' : List ℕ) (ran : Ran n need word a b words marks which Done words' marks' which') where
+    (n need word : ℕ) (a b words marks which words' marks' which' : List ℕ) (ran : Ran n need word a b words marks which done words' marks' which') where
   long : length a ≡ length b
   long = same _ _ (or_neither _ _ (answer_done _ _ _ _ _ outside_pair (zip a b) (sym ran.answered)).alike).0
 

@@ -10,10 +10,10 @@ use Rattle.std.specs.Prelude.{if◌then◌else◌}
 use Rattle.rules.specs.Limits.{bad_count, outside}
 use Rattle.rules.specs.Table.{first}
 use Rattle.rules.proofs.Readings.{step_0}
-use Rattle.rules.proofs.Tables.{or_neither, either_answer}
+use Rattle.rules.proofs.Tables.{or_neither, either_answer, never_zero}
 use Rattle.rules.proofs.Width.{inside_lt}
 use Rattle.vote.specs.declared.Vote.{Vote}
-use Rattle.vote.specs.declared.VoteStep.{VoteStep}
+use Rattle.vote.specs.Answers.{VoteStep}
 use Rattle.vote.specs.declared.Which.TheVariants.{First, Second, Neither}
 use Rattle.vote.specs.Answers.{number_of, byte_of}
 use Rattle.vote.specs.Run.{shown_word, shown_which}
@@ -115,11 +115,11 @@ pub step_which : (s : Vote) (a b : ℕ) (reset : Bool) → number_of (step_of s 
 unfolding step_of
 step_which s a b reset =
     either_answer (λ (t : VoteStep). number_of t.answer ≡ 0 → Says s.word a b (shown_which t)) (first (rows_of s a b)) (not_taken s) (clauses s a b reset)
-    (λ k some none. absurd (some none)) (λ e none. which_exactly s a b reset)
+    (λ r none. absurd (never_zero r none)) (λ e none. which_exactly s a b reset)
 
 pub step_not_neither : (s : Vote) (a b : ℕ) (reset : Bool) → NotNeither s.n (shown_which (step_of s a b reset))
 unfolding step_of
 step_not_neither s a b reset =
-    either_answer (λ (t : VoteStep). NotNeither s.n (shown_which t)) (first (rows_of s a b)) (not_taken s) (clauses s a b reset) (λ k some one z. omega arith)
+    either_answer (λ (t : VoteStep). NotNeither s.n (shown_which t)) (first (rows_of s a b)) (not_taken s) (clauses s a b reset) (λ r one z. omega arith)
     (λ e. let g = (step_0 (bad_count s.need) s.n (outside s.n a || outside s.n b) (bad_state s)).0 e in
     inside_single (or_neither (ltb (s.need - 1) s.count) (outside s.n s.word) g.sound).1 g.sample_in (which_exactly s a b reset))

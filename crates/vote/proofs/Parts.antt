@@ -19,7 +19,7 @@ use Rattle.trace.proofs.Parts.{left_turn, shown_turn}
 use Rattle.trace.proofs.Steps.{trace_length}
 use Rattle.vote.specs.declared.Vote.{Vote}
 use Rattle.vote.specs.declared.VotePart.{VotePart}
-use Rattle.vote.specs.declared.VoteStep.{VoteStep}
+use Rattle.vote.specs.Answers.{VoteStep}
 use Rattle.vote.specs.Parts.{taken_by, part, Parts, Lent, lent, stored, AsLong, Shown, Written, Taken}
 use Rattle.vote.specs.Run.{plain, leaves, steps, shown_word, shown_mark, shown_which, unequal}
 use Rattle.vote.specs.Vote.{agreed}

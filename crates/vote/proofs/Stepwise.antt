@@ -11,7 +11,7 @@ use Rattle.rules.specs.Limits.{bad_count, bad_width, outside}
 use Rattle.rules.specs.Table.{first}
 use Rattle.rules.proofs.Readings.{Makes, makes, run_makes}
 use Rattle.rules.proofs.Tables.{or_neither}
-use Rattle.trace.specs.declared.RunAnswer.TheVariants.{Done}
+use Rattle.trace.specs.Answers.{done}
 use Rattle.trace.specs.Samples.{outside_pair}
 use Rattle.trace.proofs.Runs.{answer_done}
 use Rattle.trace.proofs.Samples.{nowhere}
@@ -67,7 +67,7 @@ module _ (n need word : ℕ) (m : Makes (bad_count need) n word) where
 
 pub run_is_steps :
     (n need word : ℕ) (a b words marks which words' marks' which' : List ℕ)
-    → Ran n need word a b words marks which Done words' marks' which' → Stepwise n need word a b words' marks' which'
+    → Ran n need word a b words marks which done words' marks' which' → Stepwise n need word a b words' marks' which'
 run_is_steps n need word a b words marks which words' marks' which' ran =
     let fine = answer_done _ _ _ _ _ outside_pair (zip a b) (sym ran.answered) in
     let m = run_makes _ _ _ _ _ _ fine in

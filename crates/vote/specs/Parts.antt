@@ -7,7 +7,7 @@ use Rattle.trace.specs.Trace.{left}
 use Rattle.vote.specs.declared.Vote.{Vote}
 use Rattle.vote.specs.declared.VotePart.{VotePart}
 use Rattle.vote.specs.declared.VoteRow.{VoteRow}
-use Rattle.vote.specs.declared.VoteStep.{VoteStep}
+use Rattle.vote.specs.Answers.{VoteStep}
 use Rattle.vote.specs.Run.{plain, leaves, steps, shown_word, shown_mark, shown_which, unequal}
 
 -- all samples or, with `once`, those up to and with the first alarm

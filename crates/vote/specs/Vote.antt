@@ -1,12 +1,13 @@
 -- The vote of two words: document 000, definitions 14 and 16, in document 01's order; the first clause that applies is taken. On hold
 -- and alarm the answer tells which unit still shows the last agreed word (T-09 of document 02).
-use Rattle.std.specs.Prelude.{ℕ, ◌+◌, ◌-◌, List, Bool, ◌||◌, ltb, eqb, if◌then◌else◌}
+use Rattle.std.specs.Prelude.{ℕ, ◌+◌, ◌-◌, List, Bool, ◌||◌, ltb, eqb, if◌then◌else◌, Some, None}
+use Rattle.rules.specs.declared.refusal.Refusal.{Refusal}
 use Rattle.rules.specs.Limits.{bad_count, outside}
 use Rattle.rules.specs.Table.{Row, first, answer}
 use Rattle.rules.specs.Refusals.{make_rows, step_rows}
 use Rattle.vote.specs.declared.Vote.{Vote}
-use Rattle.vote.specs.declared.VoteMade.{VoteMade}
-use Rattle.vote.specs.declared.VoteStep.{VoteStep}
+use Rattle.rules.specs.declared.answers.Made.{Made}
+use Rattle.vote.specs.Answers.{VoteStep}
 use Rattle.vote.specs.declared.VoteAnswer.TheVariants.{Agreed, Held, Alarm, Refused}
 use Rattle.vote.specs.declared.Which.{Which}
 use Rattle.vote.specs.declared.Which.TheVariants.{First, Second, Neither}
@@ -44,13 +45,13 @@ clauses s a b reset =
     alarm s (still s.word a b)
 
 -- a constructor; refused: the fresh state of n 1, N 1 and word zero
-abbrev pub made : ℕ → ℕ → ℕ → VoteMade
-made n need word = record { state = fresh n need word; refusal = 0 }
+abbrev pub made : ℕ → ℕ → ℕ → Made Vote
+made n need word = record { state = fresh n need word; refusal = None }
 
-abbrev pub not_made : ℕ → VoteMade
-not_made number = record { state = fresh 1 1 0; refusal = number }
+abbrev pub not_made : Refusal → Made Vote
+not_made refusal = record { state = fresh 1 1 0; refusal = Some refusal }
 
-unfoldable pub made_of : ℕ → ℕ → ℕ → VoteMade
+unfoldable pub made_of : ℕ → ℕ → ℕ → Made Vote
 made_of n need word = answer (first (make_rows (bad_count need) n word)) not_made (made n need word)
 
 -- 7: the count is above N-1, or the stored word is outside the width
@@ -61,8 +62,8 @@ abbrev pub rows_of : Vote → ℕ → ℕ → List Row
 rows_of s a b = step_rows (bad_count s.need) s.n (outside s.n a || outside s.n b) (bad_state s)
 
 -- a step; refused: the state as it came
-abbrev pub not_taken : Vote → ℕ → VoteStep
-not_taken s number = record { state = s; answer = Refused number }
+abbrev pub not_taken : Vote → Refusal → VoteStep
+not_taken s refusal = record { state = s; answer = Refused refusal }
 
 unfoldable pub step_of : Vote → ℕ → ℕ → Bool → VoteStep
 step_of s a b reset = answer (first (rows_of s a b)) (not_taken s) (clauses s a b reset)

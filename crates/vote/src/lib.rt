@@ -10,10 +10,11 @@ ghost use Rattle.vote.specs.Vote.{fresh, agreed, still, held, clauses, made_of, 
 ghost use Rattle.vote.specs.Run.{Ran, shown_which};
 ghost use Rattle.vote.specs.Which.{NotNeither};
 
+use rules::{Made, Refusal, Step};
 use trace::RunAnswer;
 
 // The state of a vote, with its width n and its count N (`need`).
-#[derive(Clone, Copy)]
+#[derive(Clone, Copy, Debug, PartialEq, Eq)]
 pub struct Vote {
     pub n: u32,
     pub need: u32,
@@ -22,46 +23,34 @@ pub struct Vote {
     pub count: u32,
 }
 
-// A constructor's answer: refusal 0 is none.
-#[derive(Clone, Copy)]
-pub struct VoteMade {
-    pub state: Vote,
-    pub refusal: u32,
-}
-
 // Which unit still shows the last agreed word, where the two differ.
-#[derive(Clone, Copy)]
+#[derive(Clone, Copy, Debug, PartialEq, Eq)]
 pub enum Which {
     First,
     Second,
     Neither,
 }
 
-// The word that is shown, on hold and alarm the last agreed one with the unit that still shows it, or a refusal's number.
-#[derive(Clone, Copy)]
+// The word that is shown, on hold and alarm the last agreed one with the unit that still shows it, or a refusal.
+#[derive(Clone, Copy, Debug, PartialEq, Eq)]
 pub enum VoteAnswer {
     Agreed(u32),
     Held(u32, Which),
     Alarm(u32, Which),
-    Refused(u32),
+    Refused(Refusal),
 }
 
-// A step's answer, beside the state that it leaves.
-#[derive(Clone, Copy)]
-pub struct VoteStep {
-    pub state: Vote,
-    pub answer: VoteAnswer,
-}
+pub type VoteStep = Step<Vote, VoteAnswer>;
 
 // Steps over a part of two columns: the state that they leave, and the number of the sample after them.
-#[derive(Clone, Copy)]
+#[derive(Clone, Copy, Debug, PartialEq, Eq)]
 pub struct VotePart {
     pub state: Vote,
     pub end: usize,
 }
 
 // The same of a row of samples that disagree, and whether an alarm has ended the steps with it.
-#[derive(Clone, Copy)]
+#[derive(Clone, Copy, Debug, PartialEq, Eq)]
 struct VoteRow {
     pub state: Vote,
     pub end: usize,
@@ -93,7 +82,7 @@ impl VoteAnswer {
             VoteAnswer::Agreed(_) => 0,
             VoteAnswer::Held(_, _) => 0,
             VoteAnswer::Alarm(_, _) => 0,
-            VoteAnswer::Refused(k) => k,
+            VoteAnswer::Refused(refusal) => refusal.into(),
         }
     }
 
@@ -160,20 +149,23 @@ impl Vote {
     }
 
     // A fresh state from a width, a count and an initial word.
-    pub fn from_word(n: u32, need: u32, word: u32) -> VoteMade
+    pub fn from_word(n: u32, need: u32, word: u32) -> Made<Vote>
         ensures { result ≡ made_of n need word }
     {
-        let refusal = rules::make_refusal(rules::bad_count(need), n, word);
-        if refusal != 0 {
-            let state = Vote::fresh(1, 1, 0);
-            return VoteMade { state, refusal };
+        match rules::make_refusal(rules::bad_count(need), n, word) {
+            Ok(()) => Made {
+                state: Vote::fresh(n, need, word),
+                refusal: None,
+            },
+            Err(refusal) => Made {
+                state: Vote::fresh(1, 1, 0),
+                refusal: Some(refusal),
+            },
         }
-        let state = Vote::fresh(n, need, word);
-        VoteMade { state, refusal }
     }
 
     // A fresh state from all ones within the width.
-    pub fn new(n: u32, need: u32) -> VoteMade
+    pub fn new(n: u32, need: u32) -> Made<Vote>
         ensures { result ≡ made_of n need (default_word n) }
     {
         Vote::from_word(n, need, rules::default_word(n))
@@ -182,12 +174,11 @@ impl Vote {
     fn agreed(self, word: u32) -> VoteStep
         ensures { result ≡ agreed self word }
     {
-        VoteStep {
+        Step {
             state: Vote {
-                n: self.n,
-                need: self.need,
                 word,
                 count: 0,
+                ..self
             },
             answer: VoteAnswer::Agreed(word),
         }
@@ -196,13 +187,8 @@ impl Vote {
     fn held(self, count: u32, which: Which) -> VoteStep
         ensures { result ≡ held self count which }
     {
-        VoteStep {
-            state: Vote {
-                n: self.n,
-                need: self.need,
-                word: self.word,
-                count,
-            },
+        Step {
+            state: Vote { count, ..self },
             answer: VoteAnswer::Held(self.word, which),
         }
     }
@@ -224,7 +210,7 @@ impl Vote {
         if waiting {
             return self.held(self.count + 1, which);
         }
-        VoteStep {
+        Step {
             state: self,
             answer: VoteAnswer::Alarm(self.word, which),
         }
@@ -239,10 +225,10 @@ impl Vote {
         let counted = rules::counted(self.need, self.count);
         let refused = !rules::admits(counted, self.n, sample | self.word);
         if refused {
-            let number = rules::step_number(rules::bad_count(self.need), self.n, sample);
-            return VoteStep {
+            let refusal = rules::step_refusal(rules::bad_count(self.need), self.n, sample);
+            return Step {
                 state: self,
-                answer: VoteAnswer::Refused(number),
+                answer: VoteAnswer::Refused(refusal),
             };
         }
         self.clauses(a, b, reset)
@@ -265,10 +251,7 @@ pub fn run(
 {
     let len = a.len();
     let unequal = (len != words.len()) | (len != marks.len()) | (len != which.len());
-    let answer = trace::judge_pair(rules::bad_count(need), n, word, a, b, unequal);
-    let RunAnswer::Done = answer else {
-        return answer;
-    };
+    trace::judge_pair(rules::bad_count(need), n, word, a, b, unequal)?;
     columns::take_steps(Vote::fresh(n, need, word), false, a, b, words, marks, which);
-    RunAnswer::Done
+    Ok(())
 }

@@ -5,12 +5,13 @@ use Prim.Native.Nat.{ℕ, ◌-◌}
 use lib.Bits.{bit_or}
 use lib.Dec.{ltb}
 use Rattle.rules.specs.Limits.{bad_count, outside}
+use Rattle.rules.specs.Refusal.{refusal_of}
 use Rattle.rules.specs.Table.{first}
 use Rattle.rules.specs.Refusals.{step_rows, counted, admits}
 use Rattle.rules.proofs.OneTest.{by_one_test}
 use Rattle.rules.proofs.Width.{outside_or}
 use Rattle.vote.specs.declared.Vote.{Vote}
-use Rattle.vote.specs.declared.VoteStep.{VoteStep}
+use Rattle.vote.specs.Answers.{VoteStep}
 use Rattle.vote.specs.Run.{shown_which}
 use Rattle.vote.specs.Vote.{clauses, not_taken, step_of}
 use Rattle.vote.specs.Which.{NotNeither}
@@ -24,7 +25,7 @@ admitted s a b = admits (counted s.need s.count) s.n (bit_or (bit_or a b) s.word
 ways :
     (s : Vote) (a b : ℕ) (reset : Bool)
     → (admitted s a b ≡ true → clauses s a b reset ≡ step_of s a b reset)
-    × (admitted s a b ≡ false → not_taken s (first (step_rows (bad_count s.need) s.n (outside s.n (bit_or a b)) true)) ≡ step_of s a b reset)
+    × (admitted s a b ≡ false → not_taken s (refusal_of (first (step_rows (bad_count s.need) s.n (outside s.n (bit_or a b)) true))) ≡ step_of s a b reset)
 unfolding step_of
 ways s a b reset =
     by_one_test (bad_count s.need) (ltb (s.need - 1) s.count) s.n (bit_or a b) s.word refl (outside_or s.n a b) refl (not_taken s) (clauses s a b reset)
@@ -43,8 +44,8 @@ pub returns-then-refused : goal.returns-then-refused
 returns-then-refused c =
     let x = c.args in
     let no = sym (found x.self x.a x.b c.counted-counted.ensures c.admits-refused.ensures) ∙ c.if-refused.true in
-    let is : not_taken x.self c.step_number-number.result ≡ step_of x.self x.a x.b x.reset
-    = rw (c.step_number-number.ensures, c.bad_count.ensures) ((ways x.self x.a x.b x.reset).1 no) in
+    let is : not_taken x.self c.step_refusal-refusal.result ≡ step_of x.self x.a x.b x.reset
+    = rw (c.step_refusal-refusal.ensures, c.bad_count.ensures) ((ways x.self x.a x.b x.reset).1 no) in
     record { value = is; not_neither = not_neither_of x.self x.a x.b x.reset is }
 
 pub returns : goal.returns

@@ -7,7 +7,7 @@ use native.Mathlib.Omega.{arith}
 use lib.Dec.{eqb}
 use lib.ListN.{length, get_or, set}
 use Rattle.vote.specs.declared.Vote.{Vote}
-use Rattle.vote.specs.declared.VoteStep.{VoteStep}
+use Rattle.vote.specs.Answers.{VoteStep}
 use Rattle.vote.specs.Parts.{Lent, lent, stored, AsLong, GoesOn}
 use Rattle.vote.specs.Run.{plain, shown_word, shown_mark, shown_which}
 use Rattle.vote.proofs.Parts.{stored_as, stored_long, one_taken}
