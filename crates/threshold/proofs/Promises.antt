@@ -7,6 +7,7 @@ use native.Mathlib.Omega.{arith}
 use lib.Dec.{T}
 use lib.Ieee.{Float, binary64, sub, le, lt}
 use lib.Ieee.Scale.{finite}
+use Rattle.std.proofs.lemmas.Float.{T_from_true}
 use Rattle.rules.specs.Table.{first}
 use Rattle.rules.proofs.Tables.{or_each}
 use Rattle.threshold.specs.declared.Readings.{Readings}
@@ -21,13 +22,10 @@ use Rattle.threshold.proofs.Order.{total, trans, exceeds}
 abbrev Finite : Float → Type 0
 Finite x = T (finite x)
 
-holds : (b : Bool) → b ≡ true → T b
-holds b e = subst T (sym e) tt
-
 one_of : (a b c : Bool) → a || b || c ≡ true → T a ⊎ (T b ⊎ T c)
 one_of true b c e = inl tt
 one_of false true c e = inr (inl tt)
-one_of false false c e = inr (inr (holds c e))
+one_of false false c e = inr (inr (T_from_true c e))
 
 -- a difference does not agree exactly when its magnitude exceeds the tolerance
 beyond : (a b t : Float) → Finite a → Finite b → Finite t → (within a b t ≡ false) ↔ Exceeds a b t

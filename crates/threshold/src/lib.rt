@@ -1,9 +1,8 @@
 // The 2/3 threshold vote on readings (document 000, 6.1): one call, without a state.
 #![tactic(auto)]
 
-ghost use Rattle.std.specs.Prelude.{◌≡◌, ◌&&◌, T};
-ghost use Rattle.std.specs.Float.Ieee.Scale.{finite};
-ghost use Rattle.threshold.specs.Threshold.{number_of, mark_of, lesser, greater, magnitude_of, within, bad_readings, agrees, median_of, threshold_of};
+ghost use Rattle.std.specs.Prelude.{◌≡◌};
+ghost use Rattle.threshold.specs.Threshold.{number_of, mark_of, lesser, greater, within, bad_readings, agrees, median_of, threshold_of};
 
 // Three readings and their tolerance.
 #[derive(Clone, Copy)]
@@ -46,48 +45,34 @@ impl Threshold {
     }
 }
 
-// Written so that each is one instruction: the same as the definition for all but a NaN.
+// By hand, as `f64::min` and `f64::max` leave open which of two noughts they give.
 fn min(a: f64, b: f64) -> f64
-    requires { T (finite a) × T (finite b) }
-    ensures { (result ≡ lesser a b) × T (finite result) }
+    ensures { result ≡ lesser a b }
 {
-    if b < a { b } else { a }
+    if a <= b { a } else { b }
 }
 
 fn max(a: f64, b: f64) -> f64
-    requires { T (finite a) × T (finite b) }
-    ensures { (result ≡ greater a b) × T (finite result) }
+    ensures { result ≡ greater a b }
 {
-    if a < b { b } else { a }
+    if a >= b { a } else { b }
 }
 
-fn magnitude(d: f64) -> f64
-    ensures { result ≡ magnitude_of d }
-{
-    if d < 0.0 { -d } else { d }
-}
-
-// The difference is one rounded operation.
+// The difference is one rounded operation. The greater of it and its negation is its magnitude.
 fn close(a: f64, b: f64, tolerance: f64) -> bool
     ensures { result ≡ within a b tolerance }
 {
-    magnitude(a - b) <= tolerance
+    let d = a - b;
+    (d <= tolerance) & (-d <= tolerance)
 }
 
 impl Readings {
-    // Nought times each is a nought, or a NaN where it is not finite: one test for all four.
-    fn all_finite(self) -> bool
-        ensures { result ≡ finite self.x1 && finite self.x2 && finite self.x3 && finite self.tolerance }
-    {
-        let noughts = self.x1 * 0.0 + self.x2 * 0.0 + self.x3 * 0.0 + self.tolerance * 0.0;
-        noughts == 0.0
-    }
-
-    // 11: one of the four is not finite, or the tolerance is below zero.
+    // 11, by one test: nought times each is a nought, or a NaN where it is not finite, and above no good tolerance.
     fn bad(self) -> bool
         ensures { result ≡ bad_readings self }
     {
-        !self.all_finite() | (self.tolerance < 0.0)
+        let noughts = self.x1 * 0.0 + self.x2 * 0.0 + self.x3 * 0.0 + self.tolerance * 0.0;
+        !(noughts <= self.tolerance)
     }
 
     fn agree(self) -> bool
@@ -99,7 +84,6 @@ impl Readings {
     }
 
     fn median(self) -> f64
-        requires { T (finite self.x1) × T (finite self.x2) × T (finite self.x3) }
         ensures { result ≡ median_of self }
     {
         let low = max(min(self.x1, self.x2), min(self.x2, self.x3));

@@ -2,19 +2,11 @@
 use mathlib.Core.Path.{sym, ◌∙◌}
 use Rattle.rules.specs.Table.{first}
 use Rattle.threshold.specs.Threshold.{threshold_of}
-use Rattle.threshold.proofs.Noughts.{four_finite}
 use Rattle.threshold.proofs.Readings.vote.Goals as goal
 
 pub returns-then-bad : goal.returns-then-bad
 unfolding threshold_of first
 returns-then-bad c = simp (sym c.bad.ensures ∙ c.if-bad.true)
-
--- where nothing is refused the readings are finite
-pub median-requires : goal.median-requires
-median-requires c =
-    let r = c.args.self in
-    let f = four_finite r (sym c.bad.ensures ∙ c.if-bad.false) in
-    (f.0, f.1, f.2)
 
 pub returns-then-agree : goal.returns-then-agree
 unfolding threshold_of first
