@@ -1,13 +1,13 @@
 // Sizing of counts and bounds (document 01, "Sizing"; T-02): from the width, the gaps between samples and the greatest delay.
 #![tactic(auto)]
 
-ghost use Rattle.std.specs.Prelude.{◌≡◌, ◌/◌, ◌≤◌};
+ghost use Rattle.std.specs.Prelude.{◌≡◌};
 ghost use Rattle.rules.specs.Table.{first};
 ghost use Rattle.sizing.specs.Sizing.{bad_gaps, count_of, votes_of, size_rows, sizing_of};
 
 // The confirmation's count N, the votes' count, and from N the age bound and the quiet gap; refusal 0 is none. Times are whole
 // microseconds.
-#[derive(Clone, Copy)]
+#[derive(Clone, Copy, Default)]
 pub struct Sizing {
     pub refusal: u32,
     pub need: u32,
@@ -23,32 +23,21 @@ fn bad_gaps(least: u32, greatest: u32) -> bool
     (least == 0) | (least > greatest) | (greatest > Sizing::MAX_GAP)
 }
 
-// Rounded down, and wide enough for every gap and delay; by gap 0, which is refused, 0.
-fn quotient(time: u64, gap: u32) -> u64
-    ensures value { result ≡ time / gap }
-    ensures upper_bound { result ≤ time }
-{
-    if gap == 0 {
-        return 0;
-    }
-    time / gap as u64
-}
-
-// The confirmation's count.
+// The confirmation's count, in 64 bits as none is refused yet; a gap of 0, which is refused, divides to 0.
 fn count_of(least: u32, delay: u32) -> u64
     ensures { result ≡ count_of least delay }
 {
-    quotient(delay as u64, least) + 1
+    u64::from(delay.checked_div(least).unwrap_or(0)) + 1
 }
 
-// The votes' count: with a gap less one added, rounding down rounds the delay's own quotient up.
+// The votes' count, likewise.
 fn votes_of(least: u32, delay: u32) -> u64
     ensures { result ≡ votes_of least delay }
 {
     if least == 0 {
         return 1;
     }
-    quotient(delay as u64 + (least as u64 - 1), least) + 1
+    u64::from(delay.div_ceil(least)) + 1
 }
 
 fn size_refusal(n: u32, least: u32, greatest: u32, delay: u32) -> u32
@@ -74,18 +63,17 @@ impl Sizing {
         if refusal != 0 {
             return Sizing {
                 refusal,
-                need: 0,
-                votes: 0,
-                age: 0,
-                quiet: 0,
+                ..Sizing::default()
             };
         }
+        let width = u64::from(n);
+        let gap = u64::from(greatest_gap);
+        let late = u64::from(delay);
         let need = count_of(least_gap, delay);
         let votes = votes_of(least_gap, delay);
-        let samples = n as u64 * need;
-        let gap = greatest_gap as u64;
-        let age = samples * gap + delay as u64;
-        let quiet = (samples + 1) * gap + delay as u64;
+        let samples = width * need;
+        let age = samples * gap + late;
+        let quiet = (samples + 1) * gap + late;
         let need = need as u32;
         let votes = votes as u32;
         Sizing {
