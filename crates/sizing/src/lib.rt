@@ -52,9 +52,9 @@ fn size_refusal(n: u32, least: u32, greatest: u32, delay: u32) -> u32
 }
 
 impl Sizing {
-    pub const MAX_GAP: u32 = 1000000;
+    pub const MAX_GAP: u32 = 1_000_000;
 
-    pub const MAX_DELAY: u32 = 10000000;
+    pub const MAX_DELAY: u32 = 10_000_000;
 
     pub fn of(n: u32, least_gap: u32, greatest_gap: u32, delay: u32) -> Sizing
         ensures { result ≡ sizing_of n least_gap greatest_gap delay }

@@ -29,7 +29,7 @@ pub returns-then-refusal-ne0 : goal.returns-then-refusal-ne0
 unfolding sizing_of
 returns-then-refusal-ne0 c =
     let zeros = c.default.ensures in
-    rw (zeros.1.0, zeros.1.1.0, zeros.1.1.1.0, zeros.1.1.1.1)
+    simp (zeros.1.0, zeros.1.1.0, zeros.1.1.1.0, zeros.1.1.1.1)
     (refuses not_sized _ c.size_refusal-refusal.ensures c.if-refusal-ne0.true)
 
 pub returns : goal.returns
