@@ -67,7 +67,7 @@ fn close(a: f64, b: f64, tolerance: f64) -> bool
 }
 
 impl Readings {
-    // 11, by one test: nought times each is a nought, or a NaN where it is not finite, and above no good tolerance.
+    // 11, by one test: nought times each is a nought, or a NaN if it is not finite; none is above a good tolerance.
     fn bad(self) -> bool
         ensures { result ≡ bad_readings self }
     {
