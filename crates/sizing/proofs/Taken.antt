@@ -1,11 +1,13 @@
 -- A sizing that is not refused: its numbers are the definition's, and its counts do what they are for.
-use mathlib.Core.Path.{◌≡◌, refl, sym, ◌∙◌}
+use mathlib.Core.Path.{◌≡◌, refl, sym, ap, ◌∙◌}
 use mathlib.Core.Bool.{false}
 use Prim.Native.Nat.{ℕ, ◌-◌, ◌*◌, ◌≤◌, ◌<◌}
 use native.Mathlib.Omega.{arith}
 use borrow.Author.Tests.{ne_eqb, le-ltb}
 use Rattle.rules.specs.Limits.{bad_count}
-use Rattle.rules.specs.Table.{first}
+use Rattle.std.specs.Prelude.{None}
+use Rattle.rules.specs.Refusal.{refusal_of, number_in}
+use Rattle.rules.specs.Table.{first, known}
 use Rattle.rules.proofs.Tables.{own_number}
 use Rattle.sizing.specs.declared.Sizing.{Sizing}
 use Rattle.sizing.specs.Sizing.{size_rows, not_sized, sized, sizing_of}
@@ -21,10 +23,11 @@ pub record Serves (tm d : ℕ) (z : Sizing) : Type 0 where
 count_fits : (c : ℕ) → 1 ≤ c → c ≤ 1000 → bad_count c ≡ false
 count_fits c some few = rw (ne_eqb c 0 (λ e. omega arith)) (le-ltb 1000 c few)
 
-module _ (n tm tM d : ℕ) (taken : (sizing_of n tm tM d).refusal ≡ 0) where
+module _ (n tm tM d : ℕ) (taken : (sizing_of n tm tM d).refusal ≡ None) where
   none_refused : first (size_rows n tm tM d) ≡ 0
-  unfolding sizing_of
-  none_refused = sym (own_number (λ (z : Sizing). z.refusal) (first (size_rows n tm tM d)) not_sized (sized n tm tM d) (λ k. refl) refl) ∙ taken
+  unfolding sizing_of known refusal_of
+  none_refused =
+      sym (own_number (λ (z : Sizing). number_in z.refusal) (size_rows n tm tM d) not_sized (sized n tm tM d) refl (λ r. refl) refl) ∙ ap number_in taken
 
   its_ranges : Sized n tm tM d
   its_ranges = ranges n tm tM d none_refused

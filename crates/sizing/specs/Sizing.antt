@@ -1,5 +1,6 @@
 -- Sizing of counts and bounds: document 01, "Sizing", and for the votes document 02, T-02; document 000, 4.2.2 and 6.2.
-use Rattle.std.specs.Prelude.{ℕ, ◌+◌, ◌-◌, ◌*◌, ◌/◌, List, [], ◌∷◌, Bool, ◌||◌, ltb, eqb}
+use Rattle.std.specs.Prelude.{ℕ, ◌+◌, ◌-◌, ◌*◌, ◌/◌, List, [], ◌∷◌, Bool, ◌||◌, ltb, eqb, Some, None}
+use Rattle.rules.specs.declared.refusal.Refusal.{Refusal}
 use Rattle.rules.specs.Limits.{bad_width}
 use Rattle.rules.specs.Table.{Row, ◌when◌, first, answer}
 use Rattle.sizing.specs.declared.Sizing.{Sizing}
@@ -39,14 +40,14 @@ size_rows n tm tM d =
     []
 
 -- refused: zeros
-abbrev pub not_sized : ℕ → Sizing
-not_sized number = record { refusal = number; need = 0; votes = 0; age = 0; quiet = 0 }
+abbrev pub not_sized : Refusal → Sizing
+not_sized refusal = record { refusal = Some refusal; need = 0; votes = 0; age = 0; quiet = 0 }
 
 -- both counts; the age bound and the quiet gap use the confirmation's
 abbrev pub sized : ℕ → ℕ → ℕ → ℕ → Sizing
 sized n tm tM d =
     let need = count_of tm d in
-    record { refusal = 0; need = need; votes = votes_of tm d; age = age_bound n need tM d; quiet = quiet_gap n need tM d }
+    record { refusal = None; need = need; votes = votes_of tm d; age = age_bound n need tM d; quiet = quiet_gap n need tM d }
 
 unfoldable pub sizing_of : ℕ → ℕ → ℕ → ℕ → Sizing
 sizing_of n tm tM d = answer (first (size_rows n tm tM d)) not_sized (sized n tm tM d)

@@ -2,14 +2,17 @@
 #![tactic(auto)]
 
 ghost use Rattle.std.specs.Prelude.{◌≡◌};
+ghost use Rattle.rules.specs.Refusal.{told};
 ghost use Rattle.rules.specs.Table.{first};
-ghost use Rattle.sizing.specs.Sizing.{bad_gaps, count_of, votes_of, size_rows, sizing_of};
+ghost use Rattle.sizing.specs.Sizing.{bad_gaps, count_of, votes_of, size_rows, sized, sizing_of};
 
-// The confirmation's count N, the votes' count, and from N the age bound and the quiet gap; refusal 0 is none. Times are whole
-// microseconds.
-#[derive(Clone, Copy, Default)]
+use rules::{Limits, Refusal};
+
+// The confirmation's count N, the votes' count, and from N the age bound and the quiet gap; with a refusal all are zeros.
+// Times are whole microseconds.
+#[derive(Clone, Copy, Debug, Default, PartialEq, Eq)]
 pub struct Sizing {
-    pub refusal: u32,
+    pub refusal: Option<Refusal>,
     pub need: u32,
     pub votes: u32,
     pub age: u64,
@@ -40,15 +43,16 @@ fn votes_of(least: u32, delay: u32) -> u64
     u64::from(delay.div_ceil(least)) + 1
 }
 
-fn size_refusal(n: u32, least: u32, greatest: u32, delay: u32) -> u32
-    ensures { result ≡ first (size_rows n least greatest delay) }
+#[tactic(auto, unfolding(rules::specs::Table::first, rules::specs::Refusal::refusal_of, rules::specs::Refusal::told))]
+fn size_refusal(n: u32, least: u32, greatest: u32, delay: u32) -> Result<(), Refusal>
+    ensures { result ≡ told (first (size_rows n least greatest delay)) }
 {
     let times = bad_gaps(least, greatest) | (delay > Sizing::MAX_DELAY);
-    let most = rules::Limits::COUNT as u64;
+    let most = u64::from(Limits::COUNT);
     let above = (count_of(least, delay) > most) | (votes_of(least, delay) > most);
-    let r = rules::or_else(0, 2, rules::bad_width(n));
-    let r = rules::or_else(r, 9, times);
-    rules::or_else(r, 10, above)
+    Refusal::Width.when(rules::bad_width(n))?;
+    Refusal::Times.when(times)?;
+    Refusal::TooMany.when(above)
 }
 
 impl Sizing {
@@ -56,16 +60,10 @@ impl Sizing {
 
     pub const MAX_DELAY: u32 = 10_000_000;
 
-    pub fn of(n: u32, least_gap: u32, greatest_gap: u32, delay: u32) -> Sizing
-        ensures { result ≡ sizing_of n least_gap greatest_gap delay }
+    fn sized(n: u32, least_gap: u32, greatest_gap: u32, delay: u32) -> Sizing
+        requires { first (size_rows n least_gap greatest_gap delay) ≡ 0 }
+        ensures { result ≡ sized n least_gap greatest_gap delay }
     {
-        let refusal = size_refusal(n, least_gap, greatest_gap, delay);
-        if refusal != 0 {
-            return Sizing {
-                refusal,
-                ..Sizing::default()
-            };
-        }
         let width = u64::from(n);
         let gap = u64::from(greatest_gap);
         let late = u64::from(delay);
@@ -77,11 +75,23 @@ impl Sizing {
         let need = need as u32;
         let votes = votes as u32;
         Sizing {
-            refusal,
+            refusal: None,
             need,
             votes,
             age,
             quiet,
+        }
+    }
+
+    pub fn of(n: u32, least_gap: u32, greatest_gap: u32, delay: u32) -> Sizing
+        ensures { result ≡ sizing_of n least_gap greatest_gap delay }
+    {
+        match size_refusal(n, least_gap, greatest_gap, delay) {
+            Ok(()) => Sizing::sized(n, least_gap, greatest_gap, delay),
+            Err(refusal) => Sizing {
+                refusal: Some(refusal),
+                ..Sizing::default()
+            },
         }
     }
 }

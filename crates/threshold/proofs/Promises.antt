@@ -11,6 +11,8 @@ use Rattle.std.proofs.lemmas.Float.{T_from_true}
 use Rattle.rules.specs.Table.{first}
 use Rattle.rules.proofs.Tables.{or_each}
 use Rattle.threshold.specs.declared.Readings.{Readings}
+use Rattle.rules.specs.declared.refusal.Refusal.TheVariants.{Reading}
+use Rattle.rules.specs.Refusal.{refusal_of}
 use Rattle.threshold.specs.declared.Threshold.TheVariants.{Agreed, Alarm, Refused}
 use Rattle.threshold.specs.Threshold.{magnitude_of, within, agrees, bad_readings, median_of, threshold_of}
 use Rattle.threshold.specs.Promises.{Between, Agrees, Exceeds, Sound, Apart}
@@ -47,8 +49,8 @@ module _ (r : Readings) where
       let f = four_finite r e in
       record { finite1 = f.0; finite2 = f.1; finite3 = f.2; finite_tolerance = f.3 }
 
-  to_refused : bad_readings r ≡ true → threshold_of r ≡ Refused 11
-  unfolding threshold_of first
+  to_refused : bad_readings r ≡ true → threshold_of r ≡ Refused Reading
+  unfolding threshold_of first refusal_of
   to_refused b = simp b
 
   to_agreed : bad_readings r ≡ false → agrees r ≡ true → threshold_of r ≡ Agreed (median_of r)

@@ -3,6 +3,7 @@ use Rattle.std.specs.Prelude.{ℕ, List, [], ◌∷◌, Bool, not, ◌||◌, Flo
 use Rattle.std.specs.Float.{binary64}
 use Rattle.std.specs.Float.Ieee.{of_bits, sub, neg, le, lt}
 use Rattle.std.specs.Float.Ieee.Scale.{finite}
+use Rattle.rules.specs.Refusal.{number}
 use Rattle.rules.specs.Table.{Row, ◌when◌, first, answer}
 use Rattle.threshold.specs.declared.Readings.{Readings}
 use Rattle.threshold.specs.declared.Threshold.{Threshold}
@@ -12,12 +13,12 @@ use Rattle.threshold.specs.declared.Threshold.TheVariants.{Agreed, Alarm, Refuse
 abbrev pub number_of : Threshold → ℕ
 number_of (Agreed m) = 0
 number_of Alarm = 0
-number_of (Refused k) = k
+number_of (Refused refusal) = number refusal
 
 abbrev pub mark_of : Threshold → ℕ
 mark_of (Agreed m) = 0
 mark_of Alarm = 2
-mark_of (Refused k) = 255
+mark_of (Refused refusal) = 255
 
 -- +0
 abbrev pub nought : Float

@@ -4,6 +4,8 @@
 ghost use Rattle.std.specs.Prelude.{◌≡◌};
 ghost use Rattle.threshold.specs.Threshold.{number_of, mark_of, lesser, greater, within, bad_readings, agrees, median_of, threshold_of};
 
+use rules::Refusal;
+
 // Three readings and their tolerance.
 #[derive(Clone, Copy)]
 pub struct Readings {
@@ -18,7 +20,7 @@ pub struct Readings {
 pub enum Threshold {
     Agreed(f64),
     Alarm,
-    Refused(u32),
+    Refused(Refusal),
 }
 
 impl Threshold {
@@ -29,7 +31,7 @@ impl Threshold {
         match self {
             Threshold::Agreed(_) => 0,
             Threshold::Alarm => 0,
-            Threshold::Refused(k) => k,
+            Threshold::Refused(refusal) => refusal.into(),
         }
     }
 
@@ -94,7 +96,7 @@ impl Readings {
         ensures { result ≡ threshold_of self }
     {
         if self.bad() {
-            return Threshold::Refused(11);
+            return Threshold::Refused(Refusal::Reading);
         }
         if self.agree() {
             return Threshold::Agreed(self.median());

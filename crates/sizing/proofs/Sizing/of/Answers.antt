@@ -1,63 +1,19 @@
--- `Sizing::of` meets its contract: with a refusal zeros, without one the definition's numbers, which fit by far.
+-- `Sizing::of` meets its contract: with a refusal zeros, without one the definition's numbers.
 use mathlib.Core.Path.{sym, ◌∙◌}
-use Prim.Native.Nat.{◌≤◌}
-use native.Mathlib.Omega.{arith}
-use Rattle.rules.proofs.Tables.{refuses, works}
+use Rattle.rules.proofs.Tables.{told_ok, refuses, works}
 use Rattle.sizing.specs.Sizing.{not_sized, sizing_of}
-use Rattle.sizing.proofs.Counts.{Sized, ranges, Room, room}
 use Rattle.sizing.proofs.Sizing.of.Goals as goal
-use Rattle.sizing.proofs.Sizing.of.Goals.{After-count_of-need}
 
-module _ (c : After-count_of-need) where
-  known : let a = c.args in Sized a.n a.least_gap a.greatest_gap a.delay
-  known = ranges _ _ _ _ (sym c.size_refusal-refusal.ensures ∙ c.if-refusal-ne0.false)
+pub sized-requires : goal.sized-requires
+sized-requires c = told_ok (sym c.size_refusal.ensures ∙ c.in-Ok.is)
 
-  record Fits : Type 0 where
-    products : Room c.from-width.result c.count_of-need.result c.from-gap.result
-    need : c.count_of-need.result ≤ 1000
-    late : c.from-late.result ≤ 10000000
-
-  fits : Fits
-  fits =
-      let k = known in
-      let n : c.from-width.result ≤ 32 = omega (arith, k.width, c.from-width.ensures) in
-      let need : c.count_of-need.result ≤ 1000 = omega (arith, k.count, c.count_of-need.ensures) in
-      let gap : c.from-gap.result ≤ 1000000 = omega (arith, k.greatest, c.from-gap.ensures) in
-      record { products = room _ _ _ n need gap; need = need; late = omega (arith, k.delay, c.from-late.ensures) }
-
-pub returns-then-refusal-ne0 : goal.returns-then-refusal-ne0
+pub returns-in-Ok : goal.returns-in-Ok
 unfolding sizing_of
-returns-then-refusal-ne0 c =
+returns-in-Ok c = c.sized.ensures ∙ works not_sized _ _ (told_ok (sym c.size_refusal.ensures ∙ c.in-Ok.is))
+
+pub returns-in-Err : goal.returns-in-Err
+unfolding sizing_of
+returns-in-Err c =
     let zeros = c.default.ensures in
     simp (zeros.1.0, zeros.1.1.0, zeros.1.1.1.0, zeros.1.1.1.1)
-    (refuses not_sized _ c.size_refusal-refusal.ensures c.if-refusal-ne0.true)
-
-pub returns : goal.returns
-unfolding sizing_of
-returns c =
-    rw (c.votes_of-votes.ensures, c.count_of-need.ensures, c.from-width.ensures, c.from-gap.ensures, c.from-late.ensures, c.if-refusal-ne0.false)
-    (works not_sized _ c.size_refusal-refusal.ensures c.if-refusal-ne0.false)
-
-pub overflow_mul-samples : goal.overflow_mul-samples
-overflow_mul-samples c = omega (arith, fits c.before)
-
-pub overflow_mul-age : goal.overflow_mul-age
-overflow_mul-age c = omega (arith, fits c.before)
-
-pub overflow_add-age : goal.overflow_add-age
-overflow_add-age c = omega (arith, fits c.before)
-
-pub overflow_add-quiet : goal.overflow_add-quiet
-overflow_add-quiet c = omega (arith, fits c.before)
-
-pub overflow_mul-quiet : goal.overflow_mul-quiet
-overflow_mul-quiet c = omega (arith, fits c.before)
-
-pub overflow_add-quiet-2 : goal.overflow_add-quiet-2
-overflow_add-quiet-2 c = omega (arith, fits c.before)
-
-pub overflow_cast-need : goal.overflow_cast-need
-overflow_cast-need c = omega (arith, fits c.before)
-
-pub overflow_cast-votes : goal.overflow_cast-votes
-overflow_cast-votes c = omega (arith, known c.before, c.votes_of-votes.ensures)
+    (refuses not_sized _ _ (sym c.size_refusal.ensures ∙ c.in-Err.is))
