@@ -1,6 +1,6 @@
 // Steps of a confirmation over a lent trace: the loops of its run. Samples are taken in blocks, and a block that changes nothing
 // is written in one go, so that quiet traces are fast.
-ghost use Rattle.std.specs.Prelude.{◌≡◌, length, replicate};
+ghost use Rattle.std.specs.Prelude.{◌≡◌};
 ghost use Rattle.rules.specs.Limits.{differ};
 ghost use Rattle.trace.specs.Samples.{somewhere};
 ghost use Rattle.confirm.specs.Parts.{AsLong, Wrote, left_by};
@@ -12,32 +12,10 @@ fn some_other(word: u32, samples: &[u32]) -> bool
     ensures { result ≡ somewhere (differ word) samples.now }
 {
     let mut other = false;
-    let mut i = 0;
-    while i < samples.len() {
-        other = other | (word != samples[i]);
-        i += 1;
+    for sample in samples {
+        other |= word != *sample;
     }
     other
-}
-
-fn fill_numbers(slice: &mut [u32], number: u32)
-    ensures { slice.new ≡ replicate (length slice.old) number }
-{
-    let mut i = 0;
-    while i < slice.len() {
-        slice[i] = number;
-        i += 1;
-    }
-}
-
-fn fill_bytes(slice: &mut [u8], byte: u8)
-    ensures { slice.new ≡ replicate (length slice.old) byte }
-{
-    let mut i = 0;
-    while i < slice.len() {
-        slice[i] = byte;
-        i += 1;
-    }
 }
 
 // A step for each sample, from a state: what each shows is written.
@@ -53,15 +31,13 @@ fn take_steps(
     ensures wrote { Wrote start samples.now words.new marks.new counts.new }
 {
     let mut state = start;
-    let mut i = 0;
-    while i < samples.len() {
-        let taken = state.clauses(samples[i]);
+    for (i, sample) in samples.iter().enumerate() {
+        let taken = state.clauses(*sample);
         let answer = taken.answer;
         state = taken.state;
         words[i] = answer.word();
         marks[i] = answer.mark();
         counts[i] = state.count;
-        i += 1;
     }
     state
 }
@@ -84,9 +60,9 @@ fn write_block(
     if moving {
         return take_steps(start, samples, words, marks, counts);
     }
-    fill_numbers(words, start.input);
-    fill_bytes(marks, 0);
-    fill_numbers(counts, start.count);
+    words.fill(start.input);
+    marks.fill(0);
+    counts.fill(start.count);
     start
 }
 

@@ -26,8 +26,8 @@ returns c = let s = c.args.start in let samples = c.args.samples.now in let stil
     λ i h. settled s still.0.0 still.0.1 _ (same _ _ (nowhere (differ s.input) samples 0 still.1 i h)) in record {
       value = sym (unmoved_left clauses leaves s again refl 0 samples each);
       wrote = record {
-        words_shown = c.fill_numbers.ensures ∙ rw (← c.requires.0) (sym (unmoved clauses leaves s again refl 0 shown_word samples each));
-        marks_shown = c.fill_bytes.ensures ∙ rw (← c.requires.1) (sym (unmoved clauses leaves s again refl 0 shown_mark samples each));
-        counts_shown = c.fill_numbers-2.ensures ∙ rw (← c.requires.2) (sym (unmoved clauses leaves s again refl 0 shown_count samples each));
+        words_shown = c.fill.ensures.after (λ _ e. e) ∙ rw (← c.requires.0) (sym (unmoved clauses leaves s again refl 0 shown_word samples each));
+        marks_shown = c.fill-2.ensures.after (λ _ e. e) ∙ rw (← c.requires.1) (sym (unmoved clauses leaves s again refl 0 shown_mark samples each));
+        counts_shown = c.fill-3.ensures.after (λ _ e. e) ∙ rw (← c.requires.2) (sym (unmoved clauses leaves s again refl 0 shown_count samples each));
       };
     }
