@@ -19,20 +19,15 @@ use Rattle.trace.proofs.Parts.{left_turn, shown_turn}
 use Rattle.trace.proofs.Steps.{trace_length}
 use Rattle.vote.specs.declared.Vote.{Vote}
 use Rattle.vote.specs.declared.VotePart.{VotePart}
-use Rattle.vote.specs.Answers.{VoteStep}
+use Rattle.vote.specs.declared.VoteAnswer.{VoteAnswer}
+use Rattle.vote.specs.Answers.{VoteStep, word_of, mark_of, which_of}
 use Rattle.vote.specs.Parts.{taken_by, part, Parts, Lent, lent, stored, AsLong, Shown, Written, Taken}
 use Rattle.vote.specs.Run.{plain, leaves, steps, shown_word, shown_mark, shown_which, unequal}
-use Rattle.vote.specs.Vote.{agreed}
-use Rattle.vote.proofs.Clauses.{agrees}
 
 pub takes_all : (s : Vote) (xs : List (ℕ × ℕ)) → taken_by false s xs ≡ length xs
 unfolding taken_by
 takes_all s [] = refl
 takes_all s (x ∷ xs) = ap suc (takes_all (leaves (plain s x)) xs)
-
-no_alarm : (once : Bool) (m : ℕ) → eqb m 2 ≡ false → once && eqb m 2 ≡ false
-no_alarm true m e = e
-no_alarm false m e = refl
 
 -- what is stored at i changes nothing behind it
 rest_turn : (l l₀ : List ℕ) (i v : ℕ) → drop i l ≡ drop i l₀ → drop (i + 1) (set l i v) ≡ drop (i + 1) l₀
@@ -49,20 +44,20 @@ all_long a b l e =
     let all = or_each (same _ _) (λ e. e) e in
     slices_long a b l all.0 all.1
 
--- what code stores of a step, value by value
-pub stored_as : (l : Lent) (i : ℕ) (t : VoteStep) {w m u : ℕ} → w ≡ shown_word t → m ≡ shown_mark t → u ≡ shown_which t
-    → lent (set l.words i w) (set l.marks i m) (set l.which i u) ≡ stored l i t
-stored_as l i t p q r = rw (p, q, r)
+-- what code stores of an answer, value by value
+pub stored_as : (l : Lent) (i : ℕ) (answer : VoteAnswer) {w m u : ℕ} → w ≡ word_of answer → m ≡ mark_of answer → u ≡ which_of answer
+    → lent (set l.words i w) (set l.marks i m) (set l.which i u) ≡ stored l i answer
+stored_as l i answer p q r = rw (p, q, r)
 
 -- slices that are stored to stay as long
-pub stored_long : {a b : List ℕ} {l' : Lent} (l : Lent) (i : ℕ) (t : VoteStep) → l' ≡ stored l i t → AsLong a b l → AsLong a b l'
-stored_long l i t e p =
+pub stored_long : {a b : List ℕ} {l' : Lent} (l : Lent) (i : ℕ) (answer : VoteAnswer) → l' ≡ stored l i answer → AsLong a b l → AsLong a b l'
+stored_long l i answer e p =
     rw e
     (record {
       second_long = p.second_long;
-      words_long = p.words_long ∙ sym (length-set l.words i (shown_word t));
-      marks_long = p.marks_long ∙ sym (length-set l.marks i (shown_mark t));
-      which_long = p.which_long ∙ sym (length-set l.which i (shown_which t));
+      words_long = p.words_long ∙ sym (length-set l.words i (word_of answer));
+      marks_long = p.marks_long ∙ sym (length-set l.marks i (mark_of answer));
+      which_long = p.which_long ∙ sym (length-set l.which i (which_of answer));
     })
 
 -- and so are the rests of all, from a sample on
@@ -102,7 +97,7 @@ module _ (s₀ : Vote) (xs : List (ℕ × ℕ)) (i : ℕ) (t : VoteStep) (q : t 
         rest = rest_turn l l₀ i (f t) p.rest;
       }
 
-  written_on : {l₀ l : Lent} → Written s₀ xs l₀ i l → Written s₀ xs l₀ (i + 1) (stored l i t)
+  written_on : {l₀ l : Lent} → Written s₀ xs l₀ i l → Written s₀ xs l₀ (i + 1) (stored l i t.answer)
   written_on p =
       record { in_words = shown_on shown_word p.in_words; in_marks = shown_on shown_mark p.in_marks; in_which = shown_on shown_which p.in_which }
 
@@ -125,43 +120,20 @@ module _ (once : Bool) (s₀ : Vote) (a b : List ℕ) (ab : length a ≡ length 
         record { counted = rw (drop_of_length-le samples past) at p.counted; leaving = p.leaving; written = p.written }
 
     pub one_taken :
-        (t : VoteStep) (m : ℕ) (l' : Lent) → t ≡ plain s (get_or a i 0, get_or b i 0) → m ≡ shown_mark t → l' ≡ stored l i t → i < length a
-        → Taken once s₀ samples l₀ i s false l → Taken once s₀ samples l₀ (i + 1) (leaves t) (once && eqb m 2) l'
+        (t : VoteStep) (l' : Lent) {alarm over : Bool} → t ≡ plain s (get_or a i 0, get_or b i 0) → l' ≡ stored l i t.answer
+        → alarm ≡ eqb (shown_mark t) 2 → once && alarm ≡ over → i < length a
+        → Taken once s₀ samples l₀ i s false l → Taken once s₀ samples l₀ (i + 1) (leaves t) over l'
     unfolding taken_by
-    one_taken t m l' q u e h p =
+    one_taken t l' q e u told h p =
         let more : i < length samples = omega (arith, as_long) in
         let here : t ≡ plain s (get_or samples i (0, 0)) = q ∙ ap (plain s) (sym (zip_at a b i 0 0 h ab)) in
         let there = here ∙ ap (λ (s : Vote). plain s (get_or samples i (0, 0))) (sym p.leaving) in
         let rest = rw (drop-cons samples i (0, 0) more) at p.counted in
         record {
-          counted = rw (u, here, add-one) (omega (arith, rest));
+          counted = rw (← told, u, here, add-one) (omega (arith, rest));
           leaving = rw (add-one, left_turn plain leaves s₀ samples i (0, 0) more) (ap leaves (sym there));
           written = rw e (written_on s₀ samples i t there more p.written);
         }
-
-    -- one that agrees never ends it
-    pub agreed_taken :
-        get_or a i 0 ≡ get_or b i 0 → i < length a → Taken once s₀ samples l₀ i s false l → let t = agreed s (get_or a i 0) in
-        Taken once s₀ samples l₀ (i + 1) (leaves t) false (stored l i t)
-    agreed_taken e h p = rw (← no_alarm once 0 refl) (one_taken (agreed s (get_or a i 0)) 0 _ (rw (← e) (sym (agrees s (get_or a i 0) false))) refl refl h p)
-
--- slices in which samples stand taken are as long as the columns
-pub taken_long :
-    {once over : Bool} {s₀ s : Vote} {l₀ l : Lent} {end : ℕ} (a b : List ℕ) → length a ≡ length b → Taken once s₀ (zip a b) l₀ end s over l → AsLong a b l
-taken_long a b ab p =
-    let as_long = zip_length a b ab in
-    let w = p.written in
-    record {
-      second_long = ab;
-      words_long = sym (w.in_words.long ∙ as_long);
-      marks_long = sym (w.in_marks.long ∙ as_long);
-      which_long = sym (w.in_which.long ∙ as_long);
-    }
-
--- whether it is over, as a test has found it
-pub told_over :
-    {once over told : Bool} {s₀ s : Vote} {xs : List (ℕ × ℕ)} {l₀ l : Lent} {end : ℕ} → over ≡ told → Taken once s₀ xs l₀ end s over l → Taken once s₀ xs l₀ end s told l
-told_over e p = rw (← e) p
 
 -- a part that no alarm ends is the whole run
 whole :

@@ -1,13 +1,13 @@
 -- From `Lent` on it serves proofs only. Before: steps over the first samples of two columns, without resets, how many are
 -- taken, and what stands written for them.
-use Rattle.std.specs.Prelude.{ℕ, suc, ◌+◌, ◌≡◌, Bool, false, ◌&&◌, eqb, length, take, drop, set, if◌then◌else◌}
+use Rattle.std.specs.Prelude.{ℕ, suc, ◌+◌, ◌≡◌, Bool, ◌&&◌, eqb, length, take, drop, set, if◌then◌else◌}
 use mathlib.Core.List.{List, [], ◌∷◌, ◌++◌, map, zip}
 use Rattle.trace.specs.Answers.{apart_pair}
 use Rattle.trace.specs.Trace.{left}
 use Rattle.vote.specs.declared.Vote.{Vote}
 use Rattle.vote.specs.declared.VotePart.{VotePart}
-use Rattle.vote.specs.declared.VoteRow.{VoteRow}
-use Rattle.vote.specs.Answers.{VoteStep}
+use Rattle.vote.specs.declared.VoteAnswer.{VoteAnswer}
+use Rattle.vote.specs.Answers.{VoteStep, word_of, mark_of, which_of}
 use Rattle.vote.specs.Run.{plain, leaves, steps, shown_word, shown_mark, shown_which, unequal}
 
 -- all samples or, with `once`, those up to and with the first alarm
@@ -41,9 +41,9 @@ pub record Lent : Type 0 where
 abbrev pub lent : List ℕ → List ℕ → List ℕ → Lent
 lent words marks which = record { words = words; marks = marks; which = which }
 
--- what a step shows, stored at i
-abbrev pub stored : Lent → ℕ → VoteStep → Lent
-stored l i t = lent (set l.words i (shown_word t)) (set l.marks i (shown_mark t)) (set l.which i (shown_which t))
+-- what an answer shows, stored at i
+abbrev pub stored : Lent → ℕ → VoteAnswer → Lent
+stored l i answer = lent (set l.words i (word_of answer)) (set l.marks i (mark_of answer)) (set l.which i (which_of answer))
 
 -- the second column and every slice are as long as the first column
 pub record AsLong (a b : List ℕ) (l : Lent) : Type 0 where
@@ -69,7 +69,3 @@ pub record Taken (once : Bool) (s₀ : Vote) (xs : List (ℕ × ℕ)) (l₀ : Le
   pub counted : taken_by once s₀ xs ≡ end + (if over then 0 else taken_by once s (drop end xs))
   pub leaving : left plain leaves s₀ (take end xs) ≡ s
   pub written : Written s₀ xs l₀ end l
-
--- whichever run came to sample `from`, the part goes on with it
-abbrev pub GoesOn : Bool → List (ℕ × ℕ) → ℕ → Vote → Lent → VoteRow → Lent → Type 0
-GoesOn once xs from s l r l' = (s₀ : Vote) (l₀ : Lent) → Taken once s₀ xs l₀ from s false l → Taken once s₀ xs l₀ r.end r.state r.over l'

@@ -49,14 +49,6 @@ pub struct VotePart {
     pub end: usize,
 }
 
-// The same of a row of samples that disagree, and whether an alarm has ended the steps with it.
-#[derive(Clone, Copy, Debug, PartialEq, Eq)]
-struct VoteRow {
-    pub state: Vote,
-    pub end: usize,
-    pub over: bool,
-}
-
 impl Which {
     // The byte where no unit is told: the units agree, or the step is refused.
     pub const UNTOLD: u8 = 0;

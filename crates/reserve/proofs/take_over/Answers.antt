@@ -15,7 +15,7 @@ returns c =
     let came = lent x.words.now x.marks.now x.which.now in
     let step = c.clauses-taken.result in
     let is = c.clauses-taken.ensures in
-    let stored = stored_long came x.over step (stored_as came x.over step c.word.ensures c.mark.ensures c.which.ensures) long in
+    let stored = stored_long came x.over step.answer (stored_as came x.over step.answer c.word.ensures c.mark.ensures c.which.ensures) long in
     let went = as_taken false _ _ _ _ _ (rests_long (x.over + 1) _ _ _ stored) _ c.write_steps.ensures in
     let whole = whole_run _ _ _ _ _ _ went in
     record {
