@@ -44,7 +44,8 @@ pub(crate) fn take_steps(
         let taken = state.clauses(*first, b[i], false);
         state = taken.state;
         store(taken.answer, i, words, marks, which);
-        let over = once & taken.answer.is_alarm();
+        let alarm = taken.answer.is_alarm();
+        let over = once & alarm;
         if over {
             return VotePart { state, end: i + 1 };
         }

@@ -14,13 +14,13 @@ pub loop-i-preserved : goal.loop-i-preserved
 loop-i-preserved c =
     let l = c.loop-i in
     let t = c.clauses-taken in
-    one_taken _ _ _ _ c.requires.second_long _ _ _ _ t.result _ t.ensures c.store.ensures c.is_alarm.ensures c.if-over.false c.loop-i-test.true l.invariant
+    one_taken _ _ _ _ c.requires.second_long _ _ _ _ t.result _ t.ensures c.store.ensures c.is_alarm-alarm.ensures c.if-over.false c.loop-i-test.true l.invariant
 
 pub returns-then-over : goal.returns-then-over
 returns-then-over c =
     let l = c.loop-i in
     let t = c.clauses-taken in
-    one_taken _ _ _ _ c.requires.second_long _ _ _ _ t.result _ t.ensures c.store.ensures c.is_alarm.ensures c.if-over.true c.loop-i-test.true l.invariant
+    one_taken _ _ _ _ c.requires.second_long _ _ _ _ t.result _ t.ensures c.store.ensures c.is_alarm-alarm.ensures c.if-over.true c.loop-i-test.true l.invariant
 
 pub returns : goal.returns
 returns c =
