@@ -14,11 +14,9 @@ fn fill_pairs(marks: &[u8], pairs: &mut [u32])
     ensures { pairs.new ≡ pairs_of marks.now }
 {
     let mut pair = 1;
-    let mut i = 0;
-    while i < marks.len() {
+    for (i, mark) in marks.iter().enumerate() {
         pairs[i] = pair;
-        pair = next_pair(pair, marks[i]);
-        i += 1;
+        pair = next_pair(pair, *mark);
     }
 }
 
