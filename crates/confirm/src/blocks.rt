@@ -78,8 +78,9 @@ pub(crate) fn write_steps(
     ensures { Wrote start samples.now words.new marks.new counts.new }
 {
     let mut state = start;
-    let mut done = 0;
-    while samples.len() - done >= 8 {
+    let blocks = samples.len() / 8;
+    for block in 0..blocks {
+        let done = 8 * block;
         let end = done + 8;
         state = write_block(
             state,
@@ -88,8 +89,8 @@ pub(crate) fn write_steps(
             &mut marks[done..end],
             &mut counts[done..end],
         );
-        done = end;
     }
+    let done = 8 * blocks;
     take_steps(
         state,
         &samples[done..],
