@@ -1,4 +1,4 @@
--- `confirm::blocks::some_other` meets its contract. The invariant: one was found so far, or is among the samples to come, exactly when some sample is one.
+-- `confirm::blocks::some_other` meets its contract: past the last sample, what was found so far is all.
 use mathlib.Core.Bool.{or-false, or_assoc}
 use Rattle.rules.specs.Limits.{differ}
 use Rattle.trace.proofs.Samples.{somewhere_next, nowhere_more}

@@ -1,4 +1,4 @@
--- `confirm::blocks::some_other` meets its contract. The invariant: one was found so far, or is among the samples to come, exactly when some sample is one.
+-- The invariant: one was found so far, or is among the samples to come, exactly when some sample is one.
 use mathlib.Core.Path.{◌≡◌}
 use mathlib.Core.Bool.{◌||◌}
 use lib.ListN.{drop}

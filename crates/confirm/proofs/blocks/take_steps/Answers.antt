@@ -1,4 +1,4 @@
--- `confirm::blocks::take_steps` meets its contract. The invariant: each slice is written before i, and the samples from i on give the rest.
+-- `confirm::blocks::take_steps` meets its contract: each sample is one turn, and past the last all is written.
 use mathlib.Core.Path.{refl, sym}
 use Rattle.trace.proofs.Fill.{turn, filled, goes_on, gone}
 use Rattle.confirm.specs.Confirm.{clauses}

@@ -1,4 +1,4 @@
--- `confirm::blocks::take_steps` meets its contract. The invariant: each slice is written before i, and the samples from i on give the rest.
+-- The invariant: each slice is written before i, and the samples from i on give the rest.
 use Rattle.trace.proofs.Fill.{Filled, Goes}
 use Rattle.confirm.specs.Confirm.{clauses}
 use Rattle.confirm.specs.Run.{leaves, shown_word, shown_mark, shown_count}

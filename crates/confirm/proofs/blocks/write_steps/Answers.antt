@@ -1,4 +1,4 @@
--- `confirm::blocks::write_steps` meets its contract. The invariant: each slice is written for the blocks before this one, and the samples from it on give the rest.
+-- `confirm::blocks::write_steps` meets its contract: each block is many turns at once, and so is what is left of one.
 use mathlib.Core.Path.{◌≡◌, refl, sym}
 use Prim.Native.Nat.{◌+◌, ◌-◌, ◌*◌, ◌/◌, ◌≤◌}
 use native.Mathlib.Omega.{arith}

@@ -1,4 +1,4 @@
--- `confirm::blocks::write_steps` meets its contract. The invariant: each slice is written for the blocks before this one, and the samples from it on give the rest.
+-- The invariant: each slice is written for the blocks before this one, and the samples from it on give the rest.
 use Prim.Native.Nat.{◌*◌}
 use Rattle.trace.proofs.Fill.{Filled}
 use Rattle.confirm.specs.Confirm.{clauses}
