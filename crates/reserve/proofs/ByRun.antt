@@ -13,8 +13,8 @@ use Rattle.rules.proofs.Tables.{or_each}
 use Rattle.trace.specs.Answers.{after}
 use Rattle.trace.specs.Samples.{outside_four}
 use Rattle.trace.specs.Trace.{trace, left}
-use Rattle.trace.specs.declared.RunAnswer.{RunAnswer}
-use Rattle.trace.specs.declared.RunAnswer.TheVariants.{Done}
+use Rattle.trace.specs.Answers.{RunResult}
+use Rattle.trace.specs.Answers.{done}
 use Rattle.trace.proofs.Columns.{zip_length, zip_at, four_length}
 use Rattle.trace.proofs.Runs.{answer_done}
 use Rattle.trace.proofs.Samples.{nowhere}
@@ -85,7 +85,7 @@ steps_not_neither n =
     (λ s x g o. inside_single s x g.word_in o)
 
 pub promised :
-    {n need word : ℕ} {a b c d words marks which : List ℕ} {r : RunAnswer} {words' marks' which' : List ℕ}
+    {n need word : ℕ} {a b c d words marks which : List ℕ} {r : RunResult} {words' marks' which' : List ℕ}
     → let taken = steps (fresh n need word) (samples_of a b c d) in
     r ≡ answer_of n need word a b c d words marks which → words' ≡ after r words (map shown_word taken) → marks' ≡ after r marks (map shown_mark taken)
     → which' ≡ after r which (map shown_which taken) → Ran n need word a b c d words marks which r words' marks' which'
@@ -105,7 +105,7 @@ promised {n} {need} {word} {a} {b} {c} {d} is in_words_lem in_marks in_which =
 -- what a run says, by its contract: the pair is told from the marks that stand written
 module _
     (n need word : ℕ) (a b c d words marks which words' marks' which' : List ℕ)
-    (ran : Ran n need word a b c d words marks which Done words' marks' which') where
+    (ran : Ran n need word a b c d words marks which done words' marks' which') where
   -- what the pair that was voted on showed
   abbrev shown : List (ℕ × ℕ)
   shown = voted_words (pairs_of marks') (samples_of a b c d)

@@ -8,7 +8,7 @@ use lib.Dec.{ltb}
 use Rattle.rules.specs.Limits.{bad_count, outside}
 use Rattle.rules.specs.Table.{first}
 use Rattle.rules.proofs.Readings.{step_0}
-use Rattle.rules.proofs.Tables.{or_neither, either_answer}
+use Rattle.rules.proofs.Tables.{or_neither, either_answer, never_zero}
 use Rattle.trace.specs.Samples.{outside_four}
 use Rattle.vote.specs.Answers.{number_of}
 use Rattle.vote.specs.Which.{Says, NotNeither}
@@ -47,7 +47,7 @@ module _ (s : Reserve) (x : Sample) where
   unfolding step_of
   step_which =
       either_answer (λ (t : ReserveStep). number_of t.answer ≡ 0 → Tells s.vote.word x t) (first (rows_of s x.0.0 x.0.1 x.1.0 x.1.1))
-      (not_taken s) (stepped s x) (λ k some none. absurd (some none)) (λ e none. which_exactly)
+      (not_taken s) (stepped s x) (λ r none. absurd (never_zero r none)) (λ e none. which_exactly)
 
   -- single signals: of a state and a sample inside the width
   pub inside_single : {n : ℕ} → outside n s.vote.word ≡ false → outside_four n x ≡ false → NotNeither n (shown_which (stepped s x))
@@ -61,6 +61,6 @@ pub step_not_neither : (s : Reserve) (a b c d : ℕ) → NotNeither s.vote.n (sh
 unfolding step_of
 step_not_neither s a b c d =
     let v = s.vote in
-    either_answer (λ (t : ReserveStep). NotNeither v.n (shown_which t)) (first (rows_of s a b c d)) (not_taken s) (clauses s a b c d) (λ k some one z. omega arith)
+    either_answer (λ (t : ReserveStep). NotNeither v.n (shown_which t)) (first (rows_of s a b c d)) (not_taken s) (clauses s a b c d) (λ r one z. omega arith)
     (λ e. let g = (step_0 (bad_count v.need) v.n (outside v.n a || outside v.n b || (outside v.n c || outside v.n d)) (bad_state v)).0 e in
     inside_single s ((a, b), (c, d)) (or_neither (ltb (v.need - 1) v.count) (outside v.n v.word) g.sound).1 g.sample_in)

@@ -10,6 +10,7 @@ use native.Mathlib.Omega.{arith}
 use lib.Dec.{eqb}
 use borrow.Author.Tests.{eq-eqb, eqb-true}
 use Rattle.std.specs.Prelude.{if◌then◌else◌}
+use Rattle.rules.specs.Refusal.{refusal_of}
 use Rattle.rules.specs.Table.{first}
 use Rattle.trace.proofs.Steps.{alike, trace_append}
 use Rattle.vote.specs.Answers.{mark_of}
@@ -96,7 +97,7 @@ record After (n : ℕ) (s : Reserve) : Type 0 where
 stays_over : (n : ℕ) (s : Reserve) (x : Sample) → After n s → After n (leaves (public_step s x))
 unfolding step_of
 stays_over n s x g = go (eqb (first (rows_of s x.0.0 x.0.1 x.1.0 x.1.1)) 0) where
-  go : (b : Bool) → After n (if b then stepped s x else not_taken s (first (rows_of s x.0.0 x.0.1 x.1.0 x.1.1))).state
+  go : (b : Bool) → After n (if b then stepped s x else not_taken s (refusal_of (first (rows_of s x.0.0 x.0.1 x.1.0 x.1.1)))).state
   go true = record { width = same_width s x ∙ g.width; over = ap handed_over (then_reserve s x g.over) }
   go false = g
 

@@ -5,6 +5,7 @@ use Prim.Native.Nat.{ℕ, ◌-◌}
 use lib.Bits.{bit_or}
 use lib.Dec.{ltb, eqb}
 use Rattle.rules.specs.Limits.{bad_count, outside}
+use Rattle.rules.specs.Refusal.{refusal_of}
 use Rattle.rules.specs.Table.{first}
 use Rattle.rules.specs.Refusals.{step_rows, counted, admits}
 use Rattle.rules.proofs.OneTest.{admits_exactly, by_one_test}
@@ -30,7 +31,7 @@ module _ (s : Reserve) (a b c d : ℕ) where
 
   pub ways : let v = s.vote in
       (admitted ≡ true → clauses s a b c d ≡ step_of s a b c d)
-      × (admitted ≡ false → not_taken s (first (step_rows (bad_count v.need) v.n (outside v.n (union a b c d)) true)) ≡ step_of s a b c d)
+      × (admitted ≡ false → not_taken s (refusal_of (first (step_rows (bad_count v.need) v.n (outside v.n (union a b c d)) true))) ≡ step_of s a b c d)
   unfolding step_of
   ways =
       let v = s.vote in

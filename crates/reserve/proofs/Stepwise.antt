@@ -10,7 +10,7 @@ use Rattle.rules.specs.Table.{first}
 use Rattle.rules.proofs.Readings.{Makes, makes, run_makes}
 use Rattle.rules.proofs.Tables.{or_neither}
 use Rattle.trace.specs.Samples.{outside_four}
-use Rattle.trace.specs.declared.RunAnswer.TheVariants.{Done}
+use Rattle.trace.specs.Answers.{done}
 use Rattle.trace.proofs.Runs.{answer_done}
 use Rattle.trace.proofs.Samples.{nowhere}
 use Rattle.trace.proofs.Steps.{agree}
@@ -51,7 +51,7 @@ same_steps n need word m xs inside =
 
 pub run_is_steps :
     (n need word : ℕ) (a b c d words marks which words' marks' which' : List ℕ)
-    → Ran n need word a b c d words marks which Done words' marks' which' → Stepwise n need word a b c d words' marks' which'
+    → Ran n need word a b c d words marks which done words' marks' which' → Stepwise n need word a b c d words' marks' which'
 run_is_steps n need word a b c d words marks which words' marks' which' ran =
     let xs = samples_of a b c d in
     let fine = answer_done _ _ _ _ _ outside_four xs (sym ran.answered) in

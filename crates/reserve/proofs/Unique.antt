@@ -7,7 +7,7 @@ use Rattle.rules.specs.Limits.{default_word}
 use Rattle.rules.specs.Promise.{Fixes}
 use Rattle.rules.proofs.Promise.{fixes}
 use Rattle.trace.specs.Answers.{after}
-use Rattle.trace.specs.declared.RunAnswer.{RunAnswer}
+use Rattle.trace.specs.Answers.{RunResult}
 use Rattle.reserve.specs.Pairs.{pairs_in}
 use Rattle.reserve.specs.Reserve
 use Rattle.reserve.specs.Reserve.{fresh, made_of, step_of}
@@ -33,7 +33,7 @@ step_unique = fixes (λ a z e p. p.0)
 
 -- a run: its answer, and each slice as it leaves it
 abbrev pub Seen : Type 0
-Seen = RunAnswer × List ℕ × List ℕ × List ℕ
+Seen = RunResult × List ℕ × List ℕ × List ℕ
 
 abbrev pub ran : ℕ → ℕ → ℕ → List ℕ → List ℕ → List ℕ → List ℕ → List ℕ → List ℕ → List ℕ → Seen
 ran n need w a b c d words marks which =

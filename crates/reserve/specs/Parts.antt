@@ -3,7 +3,7 @@
 use Rattle.std.specs.Prelude.{ℕ, ◌≡◌, true, take, drop}
 use mathlib.Core.List.{List, [], ◌∷◌, ◌++◌, map, zip}
 use Rattle.vote.specs.declared.Vote.{Vote}
-use Rattle.vote.specs.declared.VoteStep.{VoteStep}
+use Rattle.vote.specs.Answers.{VoteStep}
 use Rattle.vote.specs.Run as vote_run
 use Rattle.vote.specs.Vote.{clauses}
 use Rattle.reserve.specs.declared.Reserve.{Reserve}

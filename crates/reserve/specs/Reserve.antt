@@ -1,5 +1,6 @@
 -- The reserve vote over two pairs: document 000, definition 17, as document 01 has it. Whole words are compared.
-use Rattle.std.specs.Prelude.{ℕ, List, true, false, ◌||◌}
+use Rattle.std.specs.Prelude.{ℕ, List, true, false, ◌||◌, Some, None}
+use Rattle.rules.specs.declared.refusal.Refusal.{Refusal}
 use Rattle.rules.specs.Limits.{bad_count, outside}
 use Rattle.rules.specs.Table.{Row, first, answer}
 use Rattle.rules.specs.Refusals.{make_rows, step_rows}
@@ -7,11 +8,11 @@ use Rattle.vote.specs.Vote as vote
 use Rattle.vote.specs.declared.VoteAnswer.{VoteAnswer}
 use Rattle.vote.specs.declared.VoteAnswer.TheVariants.{Agreed, Held, Alarm, Refused}
 use Rattle.vote.specs.declared.Vote.{Vote}
-use Rattle.vote.specs.declared.VoteStep.{VoteStep}
+use Rattle.vote.specs.Answers.{VoteStep}
 use Rattle.reserve.specs.declared.Phase.{Phase}
 use Rattle.reserve.specs.declared.Phase.TheVariants.{Primary, TakingOver, Reserve as Reserved}
 use Rattle.reserve.specs.declared.Reserve.{Reserve}
-use Rattle.reserve.specs.declared.ReserveMade.{ReserveMade}
+use Rattle.rules.specs.declared.answers.Made.{Made}
 use Rattle.reserve.specs.declared.ReserveStep.{ReserveStep}
 
 -- fresh: primary, with a fresh vote
@@ -47,13 +48,13 @@ unfoldable pub clauses : Reserve → ℕ → ℕ → ℕ → ℕ → ReserveStep
 clauses s a b c d = in_phase s.phase s.vote a b c d
 
 -- a constructor; refused: the fresh state of n 1, N 1 and word zero
-abbrev pub made : ℕ → ℕ → ℕ → ReserveMade
-made n need word = record { state = fresh n need word; refusal = 0 }
+abbrev pub made : ℕ → ℕ → ℕ → Made Reserve
+made n need word = record { state = fresh n need word; refusal = None }
 
-abbrev pub not_made : ℕ → ReserveMade
-not_made number = record { state = fresh 1 1 0; refusal = number }
+abbrev pub not_made : Refusal → Made Reserve
+not_made refusal = record { state = fresh 1 1 0; refusal = Some refusal }
 
-unfoldable pub made_of : ℕ → ℕ → ℕ → ReserveMade
+unfoldable pub made_of : ℕ → ℕ → ℕ → Made Reserve
 made_of n need word = answer (first (make_rows (bad_count need) n word)) not_made (made n need word)
 
 -- 6 looks at all four units, whichever pair is in force; 7 at the state of the vote
@@ -63,8 +64,8 @@ rows_of s a b c d =
     step_rows (bad_count v.need) v.n (outside v.n a || outside v.n b || (outside v.n c || outside v.n d)) (vote.bad_state v)
 
 -- a step; refused: the state as it came, and no pair was voted on
-abbrev pub not_taken : Reserve → ℕ → ReserveStep
-not_taken s number = record { state = s; answer = Refused number; pair = 0 }
+abbrev pub not_taken : Reserve → Refusal → ReserveStep
+not_taken s refusal = record { state = s; answer = Refused refusal; pair = 0 }
 
 unfoldable pub step_of : Reserve → ℕ → ℕ → ℕ → ℕ → ReserveStep
 step_of s a b c d = answer (first (rows_of s a b c d)) (not_taken s) (clauses s a b c d)

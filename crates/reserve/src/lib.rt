@@ -11,11 +11,12 @@ ghost use Rattle.reserve.specs.Parts.{TookOver, Wrote};
 ghost use Rattle.reserve.specs.Reserve.{phase_after, first_pair, second_pair, clauses, made_of, step_of};
 ghost use Rattle.reserve.specs.Run.{Ran, shown_which};
 
+use rules::Made;
 use trace::RunAnswer;
 use vote::{Vote, VoteAnswer, VoteStep};
 
 // Which pair is in force: units 1 and 2; units 3 and 4 with a reset, for one step; units 3 and 4 for ever.
-#[derive(Clone, Copy)]
+#[derive(Clone, Copy, Debug, PartialEq, Eq)]
 pub enum Phase {
     Primary,
     TakingOver,
@@ -23,22 +24,15 @@ pub enum Phase {
 }
 
 // The state of a reserve vote: the phase, and the state of the vote, whichever pair it is on.
-#[derive(Clone, Copy)]
+#[derive(Clone, Copy, Debug, PartialEq, Eq)]
 pub struct Reserve {
     pub phase: Phase,
     pub vote: Vote,
 }
 
-// A constructor's answer: refusal 0 is none.
-#[derive(Clone, Copy)]
-pub struct ReserveMade {
-    pub state: Reserve,
-    pub refusal: u32,
-}
-
 // A step's answer, whose unit is one of the pair that was voted on, and that pair, 1 or 2, beside the state that it leaves. A
 // refused step votes on none, 0.
-#[derive(Clone, Copy)]
+#[derive(Clone, Copy, Debug, PartialEq, Eq)]
 pub struct ReserveStep {
     pub state: Reserve,
     pub answer: VoteAnswer,
@@ -87,23 +81,21 @@ fn second_pair(taken: VoteStep) -> ReserveStep
 
 impl Reserve {
     // A fresh state from a width, a count and an initial word.
-    pub fn from_word(n: u32, need: u32, word: u32) -> ReserveMade
+    pub fn from_word(n: u32, need: u32, word: u32) -> Made<Reserve>
         ensures { result ≡ made_of n need word }
     {
         let made = Vote::from_word(n, need, word);
-        let vote = made.state;
-        let refusal = made.refusal;
-        ReserveMade {
+        Made {
             state: Reserve {
                 phase: Phase::Primary,
-                vote,
+                vote: made.state,
             },
-            refusal,
+            refusal: made.refusal,
         }
     }
 
     // A fresh state from all ones within the width.
-    pub fn new(n: u32, need: u32) -> ReserveMade
+    pub fn new(n: u32, need: u32) -> Made<Reserve>
         ensures { result ≡ made_of n need (default_word n) }
     {
         Reserve::from_word(n, need, rules::default_word(n))
@@ -132,10 +124,10 @@ impl Reserve {
         let counted = rules::counted(vote.need, vote.count);
         let refused = !rules::admits(counted, vote.n, sample | vote.word);
         if refused {
-            let number = rules::step_number(rules::bad_count(vote.need), vote.n, sample);
+            let refusal = rules::step_refusal(rules::bad_count(vote.need), vote.n, sample);
             return ReserveStep {
                 state: self,
-                answer: VoteAnswer::Refused(number),
+                answer: VoteAnswer::Refused(refusal),
                 pair: 0,
             };
         }
@@ -218,11 +210,8 @@ pub fn run(
 {
     let len = a.len();
     let unequal = (len != words.len()) | (len != marks.len()) | (len != which.len());
-    let answer = trace::judge_four(rules::bad_count(need), n, word, a, b, c, d, unequal);
-    let RunAnswer::Done = answer else {
-        return answer;
-    };
+    trace::judge_four(rules::bad_count(need), n, word, a, b, c, d, unequal)?;
     let start = Reserve::from_word(n, need, word).state;
     write_steps(start, a, b, c, d, words, marks, which);
-    RunAnswer::Done
+    Ok(())
 }

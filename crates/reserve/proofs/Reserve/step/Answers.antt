@@ -27,8 +27,8 @@ pub returns-then-refused : goal.returns-then-refused
 returns-then-refused c =
     let x = c.args in
     let no = sym (found x.self x.a x.b x.c x.d c.counted-counted.ensures c.admits-refused.ensures) ∙ c.if-refused.true in
-    let is : not_taken x.self c.step_number-number.result ≡ step_of x.self x.a x.b x.c x.d
-    = rw (c.step_number-number.ensures, c.bad_count.ensures) ((ways x.self x.a x.b x.c x.d).1 no) in
+    let is : not_taken x.self c.step_refusal-refusal.result ≡ step_of x.self x.a x.b x.c x.d
+    = rw (c.step_refusal-refusal.ensures, c.bad_count.ensures) ((ways x.self x.a x.b x.c x.d).1 no) in
     record { value = is; not_neither = not_neither_of x.self x.a x.b x.c x.d is }
 
 pub returns : goal.returns
