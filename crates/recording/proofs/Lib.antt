@@ -1,4 +1,5 @@
 pub mod Answers
+pub mod Below
 pub mod Columns
 pub mod Fields
 pub mod Longer

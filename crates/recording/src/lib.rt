@@ -28,22 +28,12 @@ pub struct RecordingRead {
     pub answer: RunAnswer,
 }
 
-// A byte as a number: a cast of an element would ask for its range.
-fn wide(b: u8) -> u32
-    ensures { (result ≡ b) × (result < 256) }
-{
-    b as u32
-}
-
 // The little-endian number at an offset.
 fn field(bytes: &[u8], at: usize) -> u32
     requires { at + 4 ≤ length bytes.now }
     ensures { result ≡ field bytes.now at }
 {
-    wide(bytes[at])
-        + 256 * wide(bytes[at + 1])
-        + 65536 * wide(bytes[at + 2])
-        + 16777216 * wide(bytes[at + 3])
+    u32::from_le_bytes([bytes[at], bytes[at + 1], bytes[at + 2], bytes[at + 3]])
 }
 
 fn read_header(bytes: &[u8]) -> Header
@@ -59,19 +49,19 @@ fn read_header(bytes: &[u8]) -> Header
     }
 }
 
-// 12: the tag's four bytes are compared.
+// 12: the tag.
 fn bad_tag(bytes: &[u8]) -> bool
     requires { 44 ≤ length bytes.now }
     ensures { result ≡ bad_tag bytes.now }
 {
-    (bytes[0] != b'Q') | (bytes[1] != b'S') | (bytes[2] != b'R') | (bytes[3] != b'1')
+    !bytes.starts_with(b"QSR1")
 }
 
 // 12: one unit, two, or four.
 fn bad_units(units: u32) -> bool
     ensures { result ≡ bad_units units }
 {
-    (units != 1) & (units != 2) & (units != 4)
+    !matches!(units, 1 | 2 | 4)
 }
 
 // 4, 12 or 3, or 0: what is known before an offset is looked at.
@@ -123,13 +113,7 @@ fn bad_offsets(bytes: &[u8], h: Header) -> bool
     requires { (44 ≤ length bytes.now) × (h.samples ≤ 2048) }
     ensures { result ≡ some_below 5 (bad_offset bytes.now h) }
 {
-    let mut bad = false;
-    let mut k = 0;
-    while k < 5 {
-        bad = bad | bad_offset(bytes, h, k);
-        k += 1;
-    }
-    bad
+    (0..5).any(|k| bad_offset(bytes, h, k))
 }
 
 // 12, 1, 2 or 5, or 0: what is known before a sample is looked at.

@@ -1,20 +1,14 @@
--- `recording::bad_offsets` meets its contract. The invariant: some offset below k is bad.
-use mathlib.Core.Path.{◌≡◌}
-use native.Mathlib.Omega.{arith}
-use Rattle.rules.proofs.Signals.{some_none, some_more}
+-- `recording::bad_offsets` meets its contract: the search asks of each of the five offsets whether it is bad.
+use mathlib.Core.Path.{refl, ◌∙◌}
+use borrow.Author.Tests.{tests}
+use Rattle.std.proofs.Common.{rules}
+use Rattle.std.proofs.lemmas.Iterator.{YieldsList-from_range}
+use Rattle.std.proofs.lemmas.Iterator.Search.{any_from_yields_List}
 use Rattle.recording.specs.Recording.{bad_offset}
+use Rattle.recording.proofs.Below.{any_below}
 use Rattle.recording.proofs.bad_offsets.Goals as goal
-
-pub loop-k-preserved : goal.loop-k-preserved
-loop-k-preserved c =
-    let l = c.loop-k in
-    (omega arith, rw (some_more (bad_offset _ _) l.k, ← l.invariant.1, c.bad_offset-bad.ensures))
 
 pub returns : goal.returns
 returns c =
-    let l = c.loop-k in
-    let e : l.k ≡ 5 = omega arith in
-    rw (l.invariant.1, e)
-
-pub loop-k-init : goal.loop-k-init
-loop-k-init c = (omega arith, some_none _)
+    let test = bad_offset c.args.bytes.now c.args.h in
+    any_from_yields_List test _ _ _ c.any.ensures.ran (YieldsList-from_range 0 5 5 (cc) refl) (λ x b q k. search (rules, tests)) ∙ any_below test 5
