@@ -2,18 +2,21 @@
 use mathlib.Core.Path.{◌≡◌, refl, sym, ◌∙◌}
 use mathlib.Core.Logic.{◌↔◌}
 use mathlib.Core.List.{List}
-use mathlib.Core.Bool.{Bool}
-use Prim.Native.Nat.{ℕ, ◌<◌, ◌≤◌}
-use lib.Dec.{ltb}
-use borrow.Author.Tests.{lt-ltb, le-ltb}
+use mathlib.Core.Bool.{Bool, true, false}
+use Prim.Native.Nat.{ℕ}
+use Rattle.std.specs.Prelude.{Some, None, if◌then◌else◌}
+use Rattle.std.proofs.lemmas.Option.{cond_some, none-some}
 use Rattle.rules.specs.Table.{first, Given, numbered, or_else}
-use Rattle.rules.proofs.Signals.{list_length}
 use Rattle.rules.proofs.Tables.{refuses, exactly_when, upper}
 use Rattle.trace.specs.Answers.{run_number, run_sample, not_run}
 use Rattle.trace.specs.declared.RunAnswer.TheVariants.{Done}
-use Rattle.trace.specs.Samples.{first_where, Smallest}
+use Rattle.trace.specs.Samples.{first_where, somewhere, Smallest}
 use Rattle.trace.proofs.Runs.{early_row_refuses, samples_number, sample_told}
-use Rattle.recording.specs.Recording.{header_of, outside_at, numbers, shape_rows, rows_of, zeros, refused_at, read_of}
+use Rattle.recording.specs.Recording.{header_of, outside_at, first_outside, numbers, shape_rows, rows_of, zeros, refused_at, read_of}
+
+cond_none : (b : Bool) (k : ℕ) → (if b then Some k else None) ≡ None → b ≡ false
+cond_none true k e = absurd (none-some k (sym e))
+cond_none false k e = refl
 
 module _ (lent : Bool) (s : List ℕ) where
   pub refused_early : {r : ℕ} → r ≡ first (shape_rows lent s) → (r ≡ 0 → ⊥) → refused_at r 0 ≡ read_of lent s
@@ -22,18 +25,18 @@ module _ (lent : Bool) (s : List ℕ) where
       let number : r ≡ first (rows_of lent s) = e ∙ sym (upper (shape_rows lent s) _ refl (λ z. h (e ∙ z))) in
       cc (refuses (λ (k : ℕ). zeros) (header_of s) number h, early_row_refuses (shape_rows lent s) refl refl (outside_at s (header_of s)) (numbers (header_of s)) e h)
 
-  module _ {k : ℕ} (e : first (shape_rows lent s) ≡ 0) (h : k ≡ first_where (outside_at s (header_of s)) (numbers (header_of s))) where
-    decided : first (rows_of lent s) ≡ or_else 0 6 (ltb k (header_of s).samples)
+  module _ (e : first (shape_rows lent s) ≡ 0) where
+    decided : first (rows_of lent s) ≡ or_else 0 6 (somewhere (outside_at s (header_of s)) (numbers (header_of s)))
     unfolding numbered
-    decided = samples_number (shape_rows lent s) refl refl _ (numbers (header_of s)) e h (sym (list_length (λ i. i) (header_of s).samples))
+    decided = samples_number (shape_rows lent s) refl refl (outside_at s (header_of s)) (numbers (header_of s)) e refl refl
 
-    pub sample_refused : k < (header_of s).samples → refused_at 6 k ≡ read_of lent s
+    pub sample_refused : {k : ℕ} → first_outside s (header_of s) ≡ Some k → refused_at 6 k ≡ read_of lent s
     unfolding read_of
-    sample_refused l = rw (decided, lt-ltb _ _ l, ← h)
+    sample_refused {k} f = let there = cond_some _ _ k f in rw (decided, there.0, there.1)
 
-    pub accepted : (header_of s).samples ≤ k → record { header = header_of s; answer = Done } ≡ read_of lent s
+    pub accepted : first_outside s (header_of s) ≡ None → record { header = header_of s; answer = Done } ≡ read_of lent s
     unfolding read_of
-    accepted l = rw (decided, le-ltb _ _ l)
+    accepted f = rw (decided, cond_none _ _ f)
 
   pub read_exactly : (k : ℕ) → (run_number (read_of lent s).answer ≡ k) ↔ Given k (rows_of lent s)
   unfolding read_of numbered

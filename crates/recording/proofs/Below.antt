@@ -1,13 +1,18 @@
--- What a search over the numbers below n finds: whether some number has the property.
-use mathlib.Core.Path.{◌≡◌, refl, ap, ◌∙◌}
-use mathlib.Core.Bool.{Bool, or-false}
+-- What a search over the numbers below n finds: whether some number has the property, and the first that has it.
+use mathlib.Core.Path.{◌≡◌, refl, sym, ap, ◌∙◌}
+use mathlib.Core.Bool.{Bool, true, false, or-false}
 use mathlib.Core.List.{[], ◌∷◌, ◌++◌}
 use Prim.Native.Nat.{ℕ, zero, suc, ◌+◌}
 use native.Mathlib.Nat.{zero-add}
 use native.Mathlib.Omega.{arith}
-use Rattle.std.specs.List.{list_any, range_with_len}
+use lib.Dec.{ltb, leb-zero, leb-suc-suc}
+use Rattle.std.specs.Prelude.{Option, Some, None, if◌then◌else◌}
+use Rattle.std.specs.List.{list_any, find, range_with_len}
+use Rattle.std.specs.Option.{option_map}
+use Rattle.std.proofs.lemmas.Iterator.Adapters.{option_map_id}
 use Rattle.std.proofs.lemmas.List.Folds.{list_any-append}
-use Rattle.rules.specs.Signals.{some_below}
+use Rattle.rules.specs.Signals.{as_list, some_below}
+use Rattle.trace.specs.Samples.{first_where, somewhere}
 
 -- one number more
 range_more : (a n : ℕ) → range_with_len a (suc n) ≡ range_with_len a n ++ (a + n) ∷ []
@@ -19,3 +24,24 @@ unfolding some_below
 any_below f zero = refl
 any_below f (suc n) =
     ap (list_any f) (range_more 0 n) ∙ list_any-append f (range_with_len 0 n) ((0 + n) ∷ []) ∙ rw (any_below f n, zero-add, or-false)
+
+-- and the first that has it
+list_of : (n : ℕ) → as_list n (λ i. i) ≡ range_with_len 0 n
+unfolding as_list
+list_of zero = refl
+list_of (suc n) = sym (range_more 0 n ∙ rw (list_of n, zero-add))
+
+first_from : (test : ℕ → Bool) (a n : ℕ) → find test (range_with_len a n) ≡ (if somewhere test (range_with_len a n) then Some (a + first_where test (range_with_len a n)) else None)
+unfolding first_where
+first_from test a zero = refl
+first_from test a (suc n) = go (test a) _ _ (first_from test (a + 1) n) where
+  go :
+      (b : Bool) (m l : ℕ) {r : Option ℕ} → r ≡ (if ltb m l then Some (a + 1 + m) else None)
+      → (if b then Some a else r) ≡ (if ltb (if b then 0 else suc m) (suc l) then Some (a + (if b then 0 else suc m)) else None)
+  go true m l e = let here : a + 0 ≡ a = omega arith in rw (leb-suc-suc 0 l, leb-zero l, here)
+  go false m l e = let more : a + suc m ≡ a + 1 + m = omega arith in rw (leb-suc-suc (suc m) l, more) e
+
+pub first_below :
+    (test : ℕ → Bool) (n : ℕ) (r : Option ℕ) → option_map (λ i. i) r ≡ find test (range_with_len 0 n)
+    → r ≡ (if somewhere test (as_list n (λ i. i)) then Some (first_where test (as_list n (λ i. i))) else None)
+first_below test n r e = sym (option_map_id r) ∙ e ∙ first_from test 0 n ∙ rw (list_of n, zero-add)

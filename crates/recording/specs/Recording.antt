@@ -1,5 +1,5 @@
 -- The recording: document 01, "The recording". Its bytes, field by field, and what the reader makes of them.
-use Rattle.std.specs.Prelude.{ℕ, ◌+◌, ◌*◌, ◌≤◌, ◌≡◌, List, [], ◌∷◌, ◌++◌, Bool, not, ◌&&◌, ◌||◌, ltb, length, get_or, drop, if◌then◌else◌}
+use Rattle.std.specs.Prelude.{ℕ, ◌+◌, ◌*◌, ◌≤◌, ◌≡◌, List, [], ◌∷◌, ◌++◌, Bool, not, ◌&&◌, ◌||◌, ltb, length, get_or, drop, Option, Some, None, if◌then◌else◌}
 use Rattle.rules.specs.Limits.{bad_count, bad_width, too_long, differ, outside}
 use Rattle.rules.specs.Signals.{as_list, some_below}
 use Rattle.rules.specs.Table.{Row, ◌when◌, first, answer}
@@ -66,6 +66,10 @@ outside_at s h i = some_below h.units (λ k. outside h.n (sample_at s h.samples 
 
 abbrev pub numbers : Header → List ℕ
 numbers h = as_list h.samples (λ i. i)
+
+-- the number of the first sample of which that is so
+abbrev pub first_outside : List ℕ → Header → Option ℕ
+first_outside s h = if somewhere (outside_at s h) (numbers h) then Some (first_where (outside_at s h) (numbers h)) else None
 
 -- the recording's own order: lent slices (4); shorter than 44 bytes, tag, units (12); samples (3); offsets and length (12); then 1, 2, 5, 6
 abbrev pub head_rows : Bool → List ℕ → List Row

@@ -3,12 +3,13 @@
 
 mod samples;
 
-ghost use Rattle.std.specs.Prelude.{◌≡◌, ◌++◌, ◌+◌, ◌≤◌, ◌<◌, length, drop};
+ghost use Rattle.std.specs.Prelude.{◌≡◌, ◌+◌, ◌≤◌, ◌<◌, length};
 ghost use Rattle.rules.specs.Table.{first};
-ghost use Rattle.rules.specs.Signals.{as_list, some_below};
-ghost use Rattle.recording.specs.Recording.{field, header_of, column_at, offset_of, sample_at, bad_tag, bad_units, bad_offset, head_rows, layout_rows, shape_rows, refused_at, read_of, slice_after, Laid, Read};
+ghost use Rattle.rules.specs.Signals.{some_below};
+ghost use Rattle.recording.specs.Recording.{field, header_of, column_at, offset_of, bad_tag, bad_units, bad_offset, head_rows, layout_rows, shape_rows, refused_at, read_of, Read};
 
 use rules::Limits;
+use samples::Recording;
 use trace::RunAnswer;
 
 // What a recording's header says.
@@ -140,30 +141,6 @@ fn shape_refusal(bytes: &[u8], mislent: bool) -> u32
     layout_refusal(bytes, read_header(bytes))
 }
 
-// The column k on the first places of a slice.
-fn fill(bytes: &[u8], h: Header, k: u32, out: &mut [u32])
-    requires laid { Laid bytes.now h }
-    requires k_le_units { (k ≤ h.units) × (length out.old ≡ 2048) }
-    ensures { out.new ≡ as_list h.samples (sample_at bytes.now h.samples k) ++ drop h.samples out.old }
-{
-    let mut i = 0;
-    while i < h.samples {
-        out[i as usize] = samples::sample(bytes, h, k, i);
-        i += 1;
-    }
-}
-
-// The same where column k is there; an absent unit's slice stays.
-fn fill_column(bytes: &[u8], h: Header, k: u32, out: &mut [u32])
-    requires laid { Laid bytes.now h }
-    requires out_len { length out.old ≡ 2048 }
-    ensures { out.new ≡ slice_after bytes.now h k out.old }
-{
-    if k <= h.units {
-        fill(bytes, h, k, out);
-    }
-}
-
 fn refused(number: u32, sample: u32) -> RecordingRead
     ensures { result ≡ refused_at number sample }
 {
@@ -188,13 +165,13 @@ fn judged(bytes: &[u8], mislent: bool) -> RecordingRead
     if refusal != 0 {
         return refused(refusal, 0);
     }
-    let h = read_header(bytes);
-    let outsider = samples::outsider(bytes, h);
-    if outsider < h.samples {
-        return refused(6, outsider);
+    let header = read_header(bytes);
+    let recording = Recording { bytes, header };
+    if let Some(sample) = recording.outsider() {
+        return refused(6, sample);
     }
     RecordingRead {
-        header: h,
+        header,
         answer: RunAnswer::Done,
     }
 }
@@ -221,11 +198,14 @@ pub fn read(
     let RunAnswer::Done = answer else {
         return judged;
     };
-    let h = judged.header;
-    fill_column(bytes, h, 0, times);
-    fill_column(bytes, h, 1, one);
-    fill_column(bytes, h, 2, two);
-    fill_column(bytes, h, 3, three);
-    fill_column(bytes, h, 4, four);
+    let recording = Recording {
+        bytes,
+        header: judged.header,
+    };
+    recording.fill(0, times);
+    recording.fill(1, one);
+    recording.fill(2, two);
+    recording.fill(3, three);
+    recording.fill(4, four);
     judged
 }

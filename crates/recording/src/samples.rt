@@ -1,88 +1,87 @@
-// The samples of a recording whose layout is accepted: one of them, and the first that is outside the width.
-ghost use Rattle.std.specs.Prelude.{◌≡◌, ◌+◌, ◌≤◌, ◌<◌};
+// The samples of a recording whose layout is accepted: the first that is outside the width, and each column into a lent slice.
+ghost use Rattle.std.specs.Prelude.{◌≡◌, ◌+◌, ◌≤◌, ◌<◌, length};
 ghost use Rattle.rules.specs.Limits.{outside};
 ghost use Rattle.rules.specs.Signals.{some_below};
-ghost use Rattle.trace.specs.Samples.{first_where, somewhere};
-ghost use Rattle.recording.specs.Recording.{sample_at, outside_at, numbers, Laid};
+ghost use Rattle.trace.specs.Samples.{somewhere};
+ghost use Rattle.recording.specs.Recording.{sample_at, outside_at, first_outside, numbers, slice_after, Laid};
 
 use crate::{Header, column_at, field};
 
-// Sample i of column k.
-pub(crate) fn sample(bytes: &[u8], h: Header, k: u32, i: u32) -> u32
-    requires laid { Laid bytes.now h }
-    requires k_le_units { (k ≤ h.units) × (i < h.samples) }
-    ensures { result ≡ sample_at bytes.now h.samples k i }
-{
-    field(bytes, column_at(h.samples, k) + 4 * i as usize)
+// A recording whose layout is accepted: the columns of its header lie in its bytes.
+#[derive(Clone, Copy)]
+pub(crate) struct Recording<'a> {
+    pub(crate) bytes: &'a [u8],
+    pub(crate) header: Header,
+    ghost laid: { Laid bytes.now header },
 }
 
-// 6, of sample i: a unit that is present shows a word outside the width.
-fn outside_at(bytes: &[u8], h: Header, i: u32) -> bool
-    requires laid { Laid bytes.now h }
-    requires i_lt_samples { i < h.samples }
-    ensures { result ≡ outside_at bytes.now h i }
-{
-    let mut bad = false;
-    let mut k = 0;
-    while k < h.units {
-        bad = bad | rules::outside(h.n, sample(bytes, h, k + 1, i));
-        k += 1;
+impl Recording<'_> {
+    // Sample i of column k.
+    fn sample(&self, k: u32, i: u32) -> u32
+        requires { (k ≤ self.now.header.units) × (i < self.now.header.samples) }
+        ensures { result ≡ sample_at self.now.bytes.now self.now.header.samples k i }
+    {
+        field(
+            self.bytes,
+            column_at(self.header.samples, k) + 4 * i as usize,
+        )
     }
-    bad
-}
 
-// The number of the first such sample, or the number of samples.
-fn first_outside(bytes: &[u8], h: Header) -> u32
-    requires { Laid bytes.now h }
-    ensures { result ≡ first_where (outside_at bytes.now h) (numbers h) }
-{
-    let mut i = 0;
-    while i < h.samples {
-        let bad = outside_at(bytes, h, i);
-        if bad {
-            return i;
+    // 6, of sample i: a unit that is present shows a word outside the width.
+    fn outside_at(&self, i: u32) -> bool
+        requires { i < self.now.header.samples }
+        ensures { result ≡ outside_at self.now.bytes.now self.now.header i }
+    {
+        (0..self.header.units).any(|k| rules::outside(self.header.n, self.sample(k + 1, i)))
+    }
+
+    // The number of the first such sample.
+    fn first_outside(&self) -> Option<u32>
+        ensures { result ≡ first_outside self.now.bytes.now self.now.header }
+    {
+        (0..self.header.samples).find(|i| self.outside_at(*i))
+    }
+
+    // Some sample of column k is outside the width exactly when the OR of all is; a loop without a branch becomes wide code.
+    fn column_outside(&self, k: u32) -> bool
+        requires { k ≤ self.now.header.units }
+        ensures { result ≡ somewhere (λ i. outside self.now.header.n (sample_at self.now.bytes.now self.now.header.samples k i)) (numbers self.now.header) }
+    {
+        let mut union = 0;
+        for i in 0..self.header.samples {
+            union |= self.sample(k, i);
         }
-        i += 1;
+        rules::outside(self.header.n, union)
     }
-    i
-}
 
-// Some sample of column k is outside the width exactly when the OR of all is; a loop without a branch becomes wide code.
-fn column_outside(bytes: &[u8], h: Header, k: u32) -> bool
-    requires laid { Laid bytes.now h }
-    requires k_le_units { k ≤ h.units }
-    ensures { result ≡ somewhere (λ i. outside h.n (sample_at bytes.now h.samples k i)) (numbers h) }
-{
-    let mut union = 0;
-    let mut i = 0;
-    while i < h.samples {
-        union = union | sample(bytes, h, k, i);
-        i += 1;
+    // Some unit that is present has such a sample.
+    fn some_outside(&self) -> bool
+        ensures { result ≡ some_below self.now.header.units (λ k. somewhere (λ i. outside self.now.header.n (sample_at self.now.bytes.now self.now.header.samples (k + 1) i)) (numbers self.now.header)) }
+    {
+        (0..self.header.units).any(|unit| self.column_outside(unit + 1))
     }
-    rules::outside(h.n, union)
-}
 
-// Some unit that is present has such a sample.
-fn some_outside(bytes: &[u8], h: Header) -> bool
-    requires { Laid bytes.now h }
-    ensures { result ≡ some_below h.units (λ k. somewhere (λ i. outside h.n (sample_at bytes.now h.samples (k + 1) i)) (numbers h)) }
-{
-    let mut bad = false;
-    let mut unit = 0;
-    while unit < h.units {
-        bad = bad | column_outside(bytes, h, unit + 1);
-        unit += 1;
+    // The number of the first sample outside the width, searched only where there is one.
+    pub(crate) fn outsider(&self) -> Option<u32>
+        ensures { result ≡ first_outside self.now.bytes.now self.now.header }
+    {
+        if self.some_outside() {
+            self.first_outside()
+        } else {
+            None
+        }
     }
-    bad
-}
 
-// The number of the first sample outside the width, searched only where there is one, or the number of samples.
-pub(crate) fn outsider(bytes: &[u8], h: Header) -> u32
-    requires { Laid bytes.now h }
-    ensures { result ≡ first_where (outside_at bytes.now h) (numbers h) }
-{
-    if some_outside(bytes, h) {
-        return first_outside(bytes, h);
+    // The column k on the first places of a slice; an absent unit's slice stays.
+    pub(crate) fn fill(&self, k: u32, out: &mut [u32])
+        requires { length out.old ≡ 2048 }
+        ensures { out.new ≡ slice_after self.now.bytes.now self.now.header k out.old }
+    {
+        if k > self.header.units {
+            return;
+        }
+        for i in 0..self.header.samples {
+            out[i as usize] = self.sample(k, i);
+        }
     }
-    h.samples
 }

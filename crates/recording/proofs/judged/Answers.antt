@@ -18,26 +18,24 @@ returns-then-refusal-ne0 c =
 fine : (lent : Bool) (s : List ℕ) {r : ℕ} → r ≡ first (shape_rows lent s) → r ≡ 0 → Shaped lent s
 fine lent s e z = shaped lent s (sym e ∙ z)
 
-pub outsider-outsider-requires : goal.outsider-outsider-requires
-outsider-outsider-requires c =
+pub read_header-header-requires : goal.read_header-header-requires
+read_header-header-requires c =
     let a = c.args in
-    rw c.read_header-h.ensures (fine a.mislent a.bytes.now c.shape_refusal-refusal.ensures c.if-refusal-ne0.false).laid
+    (fine a.mislent a.bytes.now c.shape_refusal-refusal.ensures c.if-refusal-ne0.false).head.long
 
-pub returns-then-outsider-h : goal.returns-then-outsider-h
-returns-then-outsider-h c =
+pub invariant_of-recording : goal.invariant_of-recording
+invariant_of-recording c =
     let a = c.args in
-    let found = rw c.read_header-h.ensures at c.outsider-outsider.ensures in
-    let l = rw c.read_header-h.ensures at c.if-outsider-h.true in
-    c.refused-then-outsider-h.ensures ∙ sample_refused a.mislent a.bytes.now (sym c.shape_refusal-refusal.ensures ∙ c.if-refusal-ne0.false) found l
+    rw c.read_header-header.ensures (record { laid = (fine a.mislent a.bytes.now c.shape_refusal-refusal.ensures c.if-refusal-ne0.false).laid })
+
+pub returns-in-Some : goal.returns-in-Some
+returns-in-Some c =
+    let a = c.args in
+    let found = rw c.read_header-header.ensures at c.outsider.ensures in
+    c.refused-in-Some.ensures ∙ sample_refused a.mislent a.bytes.now (sym c.shape_refusal-refusal.ensures ∙ c.if-refusal-ne0.false) (sym found ∙ c.in-Some.is)
 
 pub returns : goal.returns
 returns c =
     let a = c.args in
-    let found = rw c.read_header-h.ensures at c.outsider-outsider.ensures in
-    let l = rw c.read_header-h.ensures at c.if-outsider-h.false in
-    rw c.read_header-h.ensures (accepted a.mislent a.bytes.now (sym c.shape_refusal-refusal.ensures ∙ c.if-refusal-ne0.false) found l)
-
-pub read_header-h-requires : goal.read_header-h-requires
-read_header-h-requires c =
-    let a = c.args in
-    (fine a.mislent a.bytes.now c.shape_refusal-refusal.ensures c.if-refusal-ne0.false).head.long
+    let found = rw c.read_header-header.ensures at c.outsider.ensures in
+    rw c.read_header-header.ensures (accepted a.mislent a.bytes.now (sym c.shape_refusal-refusal.ensures ∙ c.if-refusal-ne0.false) (sym found ∙ c.in_default.is))

@@ -25,32 +25,32 @@ ready s times one two three four r e done =
     let ok = taken (mislent times one two three four) s (ap (λ (r : RecordingRead). r.answer) (sym e) ∙ done) in
     (rw (e, ok.shown) ok.shape.laid, full times one two three four ok.shape.full)
 
-pub fill_column-requires : goal.fill_column-requires
-fill_column-requires c =
+pub invariant_of-recording : goal.invariant_of-recording
+invariant_of-recording c =
     let a = c.args in
-    let r = ready a.bytes.now a.times.now a.one.now a.two.now a.three.now a.four.now c.judged-judged.result c.judged-judged.ensures c.in-Done.is in
-    record { laid = r.0; out_len = r.1.0.0.0.0 }
+    record { laid = (ready a.bytes.now a.times.now a.one.now a.two.now a.three.now a.four.now c.judged-judged.result c.judged-judged.ensures c.in-Done.is).0 }
 
-pub fill_column-requires-2 : goal.fill_column-requires-2
-fill_column-requires-2 c =
+pub fill-requires : goal.fill-requires
+fill-requires c =
     let a = c.args in
-    let r = ready a.bytes.now a.times.now a.one.now a.two.now a.three.now a.four.now c.judged-judged.result c.judged-judged.ensures c.in-Done.is in
-    record { laid = r.0; out_len = r.1.0.0.0.1 }
+    (ready a.bytes.now a.times.now a.one.now a.two.now a.three.now a.four.now c.judged-judged.result c.judged-judged.ensures c.in-Done.is).1.0.0.0.0
 
-pub fill_column-requires-3 : goal.fill_column-requires-3
-fill_column-requires-3 c =
+pub fill-requires-2 : goal.fill-requires-2
+fill-requires-2 c =
     let a = c.args in
-    let r = ready a.bytes.now a.times.now a.one.now a.two.now a.three.now a.four.now c.judged-judged.result c.judged-judged.ensures c.in-Done.is in
-    record { laid = r.0; out_len = r.1.0.0.1 }
+    (ready a.bytes.now a.times.now a.one.now a.two.now a.three.now a.four.now c.judged-judged.result c.judged-judged.ensures c.in-Done.is).1.0.0.0.1
 
-pub fill_column-requires-4 : goal.fill_column-requires-4
-fill_column-requires-4 c =
+pub fill-requires-3 : goal.fill-requires-3
+fill-requires-3 c =
     let a = c.args in
-    let r = ready a.bytes.now a.times.now a.one.now a.two.now a.three.now a.four.now c.judged-judged.result c.judged-judged.ensures c.in-Done.is in
-    record { laid = r.0; out_len = r.1.0.1 }
+    (ready a.bytes.now a.times.now a.one.now a.two.now a.three.now a.four.now c.judged-judged.result c.judged-judged.ensures c.in-Done.is).1.0.0.1
 
-pub fill_column-requires-5 : goal.fill_column-requires-5
-fill_column-requires-5 c =
+pub fill-requires-4 : goal.fill-requires-4
+fill-requires-4 c =
     let a = c.args in
-    let r = ready a.bytes.now a.times.now a.one.now a.two.now a.three.now a.four.now c.judged-judged.result c.judged-judged.ensures c.in-Done.is in
-    record { laid = r.0; out_len = r.1.1 }
+    (ready a.bytes.now a.times.now a.one.now a.two.now a.three.now a.four.now c.judged-judged.result c.judged-judged.ensures c.in-Done.is).1.0.1
+
+pub fill-requires-5 : goal.fill-requires-5
+fill-requires-5 c =
+    let a = c.args in
+    (ready a.bytes.now a.times.now a.one.now a.two.now a.three.now a.four.now c.judged-judged.result c.judged-judged.ensures c.in-Done.is).1.1
