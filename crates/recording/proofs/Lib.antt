@@ -1,5 +1,6 @@
 pub mod Answers
 pub mod Below
+pub mod Compared
 pub mod Columns
 pub mod Fields
 pub mod Longer

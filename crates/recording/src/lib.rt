@@ -52,7 +52,6 @@ fn read_header(bytes: &[u8]) -> Header
 
 // 12: the tag.
 fn bad_tag(bytes: &[u8]) -> bool
-    requires { 44 ≤ length bytes.now }
     ensures { result ≡ bad_tag bytes.now }
 {
     !bytes.starts_with(b"QSR1")
@@ -188,11 +187,8 @@ pub fn read(
     ensures { Read bytes.now times.old one.old two.old three.old four.old
         result times.new one.new two.new three.new four.new }
 {
-    let mislent = (times.len() != Limits::SAMPLES)
-        | (one.len() != Limits::SAMPLES)
-        | (two.len() != Limits::SAMPLES)
-        | (three.len() != Limits::SAMPLES)
-        | (four.len() != Limits::SAMPLES);
+    let lengths = [times.len(), one.len(), two.len(), three.len(), four.len()];
+    let mislent = lengths != [Limits::SAMPLES; 5];
     let judged = judged(bytes, mislent);
     let answer = judged.answer;
     let RunAnswer::Done = answer else {
