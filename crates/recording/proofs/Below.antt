@@ -1,7 +1,7 @@
 -- What a search over the numbers below n finds: whether some number has the property, and the first that has it.
 use mathlib.Core.Path.{◌≡◌, refl, sym, ap, ◌∙◌}
-use mathlib.Core.Bool.{Bool, true, false, or-false}
-use mathlib.Core.List.{[], ◌∷◌, ◌++◌}
+use mathlib.Core.Bool.{Bool, true, false, ◌||◌, or-false}
+use mathlib.Core.List.{List, [], ◌∷◌, ◌++◌}
 use Prim.Native.Nat.{ℕ, zero, suc, ◌+◌}
 use native.Mathlib.Nat.{zero-add}
 use native.Mathlib.Omega.{arith}
@@ -45,3 +45,15 @@ pub first_below :
     (test : ℕ → Bool) (n : ℕ) (r : Option ℕ) → option_map (λ i. i) r ≡ find test (range_with_len 0 n)
     → r ≡ (if somewhere test (as_list n (λ i. i)) then Some (first_where test (as_list n (λ i. i))) else None)
 first_below test n r e = sym (option_map_id r) ∙ e ∙ first_from test 0 n ∙ rw (list_of n, zero-add)
+
+-- some number has it where the first that has it is there
+pub any_is_somewhere : (test : ℕ → Bool) (xs : List ℕ) → list_any test xs ≡ somewhere test xs
+unfolding first_where
+any_is_somewhere test [] = refl
+any_is_somewhere test (x ∷ xs) = go (test x) _ _ (any_is_somewhere test xs) where
+  go : (b : Bool) (m l : ℕ) {r : Bool} → r ≡ ltb m l → b || r ≡ ltb (if b then 0 else suc m) (suc l)
+  go true m l e = rw (leb-suc-suc 0 l, leb-zero l)
+  go false m l e = rw (leb-suc-suc (suc m) l) e
+
+pub any_of_numbers : (test : ℕ → Bool) (n : ℕ) → list_any test (range_with_len 0 n) ≡ somewhere test (as_list n (λ i. i))
+any_of_numbers test n = rw (list_of n) (any_is_somewhere test (range_with_len 0 n))

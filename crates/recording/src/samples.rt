@@ -47,10 +47,7 @@ impl Recording<'_> {
         requires { k ≤ self.now.header.units }
         ensures { result ≡ somewhere (λ i. outside self.now.header.n (sample_at self.now.bytes.now self.now.header.samples k i)) (numbers self.now.header) }
     {
-        let mut union = 0;
-        for i in 0..self.header.samples {
-            union |= self.sample(k, i);
-        }
+        let union = (0..self.header.samples).fold(0, |union, i| union | self.sample(k, i));
         rules::outside(self.header.n, union)
     }
 

@@ -1,39 +1,29 @@
--- `recording::samples::Recording::column_outside` meets its contract. The invariant: the OR so far is outside, or a sample to come is, exactly
--- when some sample of the column is.
-use mathlib.Core.Path.{◌≡◌, sym, ap, ◌∙◌}
-use mathlib.Core.List.{List}
-use mathlib.Core.Bool.{Bool, ◌||◌, or-false, or_assoc}
-use Prim.Native.Nat.{ℕ, ◌+◌, ◌≤◌, ◌<◌}
-use lib.ListN.{length, drop}
+-- `recording::samples::Recording::column_outside` meets its contract: the OR of all samples is outside exactly when one of them is.
+use mathlib.Core.Path.{◌≡◌, sym, ◌∙◌}
+use mathlib.Core.Bool.{◌||◌, or-false, or_assoc}
+use mathlib.Core.List.{List, [], ◌∷◌}
+use Prim.Native.Nat.{ℕ}
+use native.Mathlib.Omega.{arith}
+use Rattle.std.proofs.Common.{rules, bit_or}
+use Rattle.std.specs.List.{fold, list_any}
+use Rattle.std.proofs.lemmas.Iterator.{YieldsList-from_range}
+use Rattle.std.proofs.lemmas.Iterator.Consumers.{fold_from_yields_List}
 use Rattle.rules.specs.Limits.{outside}
-use Rattle.rules.proofs.Signals.{list_length, list_at}
 use Rattle.rules.proofs.Width.{outside_or, zero_inside}
-use Rattle.trace.specs.Samples.{somewhere}
-use Rattle.trace.proofs.Samples.{somewhere_next, nowhere_more}
-use Rattle.recording.specs.declared.Header.{Header}
-use Rattle.recording.specs.Recording.{numbers}
-use Rattle.recording.proofs.samples.Recording.column_outside.Invariants.{judged}
+use Rattle.recording.specs.Recording.{sample_at}
+use Rattle.recording.proofs.Below.{any_of_numbers}
 use Rattle.recording.proofs.samples.Recording.column_outside.Goals as goal
 
--- the sample that is looked at is number i
-next :
-    (s : List ℕ) (h : Header) (k i : ℕ) → i < h.samples
-    → somewhere (judged s h k) (drop i (numbers h)) ≡ judged s h k i || somewhere (judged s h k) (drop (i + 1) (numbers h))
-next s h k i l =
-    let there : i < length (numbers h) = rw (list_length (λ j. j) h.samples) l in
-    rw (list_at (λ j. j) h.samples i l) at (somewhere_next (judged s h k) (numbers h) i 0 there)
-
-pub loop-i-init : goal.loop-i-init
-loop-i-init c = rw (zero_inside c.args.self.now.header.n)
-
-pub loop-i-preserved : goal.loop-i-preserved
-loop-i-preserved c =
-    let s = c.args.self.now in
-    let more = next s.bytes.now s.header c.args.k c.loop-i.i c.loop-i-test.true in
-    rw (outside_or, or_assoc, c.sample-union.ensures) (ap (λ (b : Bool). outside s.header.n c.loop-i.union || b) (sym more) ∙ c.loop-i.invariant)
+union_outside :
+    (n : ℕ) (f : ℕ → ℕ) (union : ℕ) (is : List ℕ)
+    → outside n (fold (λ u i. bit_or u (f i)) union is) ≡ outside n union || list_any (λ i. outside n (f i)) is
+union_outside n f union [] = sym (or-false _)
+union_outside n f union (i ∷ is) = union_outside n f (bit_or union (f i)) is ∙ rw (outside_or, or_assoc)
 
 pub returns : goal.returns
 returns c =
     let s = c.args.self.now in
-    let past : length (numbers s.header) ≤ c.loop-i.i = rw (list_length (λ j. j) s.header.samples) c.loop-i-test.false in
-    c.outside.ensures ∙ (simp (nowhere_more (judged s.bytes.now s.header c.args.k) (numbers s.header) c.loop-i.i past, or-false) at c.loop-i.invariant)
+    let n = s.header.samples in
+    let column : ℕ → ℕ = sample_at s.bytes.now n c.args.k in
+    let union = fold_from_yields_List _ (λ u i. bit_or u (column i)) 0 c.fold-union.result c.fold-union.ensures.ran (YieldsList-from_range 0 n n (cc) (omega arith)) (λ a x b q k. search rules) in
+    c.outside.ensures ∙ rw (union, union_outside s.header.n column 0, zero_inside s.header.n) (any_of_numbers (λ i. outside s.header.n (column i)) n)
