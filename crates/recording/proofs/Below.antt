@@ -7,8 +7,15 @@ use native.Mathlib.Nat.{zero-add}
 use native.Mathlib.Omega.{arith}
 use lib.Dec.{ltb, leb-zero, leb-suc-suc}
 use Rattle.std.specs.Prelude.{Option, Some, None, if◌then◌else◌}
-use Rattle.std.specs.List.{list_any, find, range_with_len}
-use Rattle.std.specs.Option.{option_map}
+use denote.Param.Members.{Mut}
+use Rattle.std.proofs.iter.Yields.{nat_range_steps}
+use Rattle.std.proofs.lemmas.Iterator.{YieldsList-from_range}
+use Rattle.std.proofs.lemmas.Iterator.Search.{any_from_yields_List}
+use Rattle.std.specs.Fn.{Called}
+use Rattle.std.specs.Iterator.{YieldsThen}
+use Rattle.std.specs.List.{FoldsTo, list_any, find, range_with_len}
+use Rattle.std.specs.declared.ops.Range.{Range}
+use Rattle.std.specs.Option.{MatchOption, option_map}
 use Rattle.std.proofs.lemmas.Iterator.Adapters.{option_map_id}
 use Rattle.std.proofs.lemmas.List.Folds.{list_any-append}
 use Rattle.rules.specs.Signals.{as_list, some_below}
@@ -24,6 +31,18 @@ unfolding some_below
 any_below f zero = refl
 any_below f (suc n) =
     ap (list_any f) (range_more 0 n) ∙ list_any-append f (range_with_len 0 n) ((0 + n) ∷ []) ∙ rw (any_below f n, zero-add, or-false)
+
+module _ {F : Type 0} {g : Mut F (ℕ × Unit {0}) Bool} {f : F} {s u : Range ℕ} {r : Bool} (test : ℕ → Bool) (n : ℕ) where
+  -- so it is what `any` answers of the numbers below n, where the closure is the test
+  pub asked_below :
+      s ≡ record { start = 0; end = n }
+      → (xs : List ℕ) × (o : Option ℕ) × (j : F)
+      × YieldsThen nat_range_steps s xs o u × FoldsTo (λ p x q. Called g p (x, tt) false q) f xs j
+      × MatchOption o (r ≡ false) (λ x. (r ≡ true) × ((h : F) × Called g j (x, tt) true h))
+      → ((x : ℕ) (b : Bool) (q : F) → Called g f (x, tt) b q → (q ≡ f) × (b ≡ test x))
+      → r ≡ some_below n test
+  asked_below e ran called =
+      any_from_yields_List test _ _ _ ran (YieldsList-from_range 0 n n e (omega arith)) called ∙ any_below test n
 
 -- and the first that has it
 list_of : (n : ℕ) → as_list n (λ i. i) ≡ range_with_len 0 n

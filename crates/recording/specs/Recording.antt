@@ -67,7 +67,11 @@ outside_at s h i = some_below h.units (λ k. outside h.n (sample_at s h.samples 
 abbrev pub numbers : Header → List ℕ
 numbers h = as_list h.samples (λ i. i)
 
--- the number of the first sample of which that is so
+-- of column k: some sample of it is outside the width
+abbrev pub column_outside : List ℕ → Header → ℕ → Bool
+column_outside s h k = somewhere (λ i. outside h.n (sample_at s h.samples k i)) (numbers h)
+
+-- the number of the first sample that shows a word outside the width, if one does
 abbrev pub first_outside : List ℕ → Header → Option ℕ
 first_outside s h = if somewhere (outside_at s h) (numbers h) then Some (first_where (outside_at s h) (numbers h)) else None
 

@@ -94,10 +94,7 @@ fn offset_of(units: u32, samples: u32, k: u32) -> usize
     requires { (samples ≤ 2048) × (k ≤ 5) }
     ensures { result ≡ offset_of units samples k }
 {
-    if units < k {
-        return 0;
-    }
-    column_at(samples, k)
+    if k <= units { column_at(samples, k) } else { 0 }
 }
 
 fn bad_offset(bytes: &[u8], h: Header, k: u32) -> bool

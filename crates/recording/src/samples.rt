@@ -1,9 +1,7 @@
 // The samples of a recording whose layout is accepted: the first that is outside the width, and each column into a lent slice.
 ghost use Rattle.std.specs.Prelude.{◌≡◌, ◌+◌, ◌≤◌, ◌<◌, length};
-ghost use Rattle.rules.specs.Limits.{outside};
 ghost use Rattle.rules.specs.Signals.{some_below};
-ghost use Rattle.trace.specs.Samples.{somewhere};
-ghost use Rattle.recording.specs.Recording.{sample_at, outside_at, first_outside, numbers, slice_after, Laid};
+ghost use Rattle.recording.specs.Recording.{sample_at, outside_at, column_outside, first_outside, slice_after, Laid};
 
 use crate::{Header, column_at, field};
 
@@ -42,10 +40,10 @@ impl Recording<'_> {
         (0..self.header.samples).find(|i| self.outside_at(*i))
     }
 
-    // Some sample of column k is outside the width exactly when the OR of all is; a loop without a branch becomes wide code.
+    // Some sample of column k is outside the width exactly when the OR of all is; without a branch it becomes wide code.
     fn column_outside(&self, k: u32) -> bool
         requires { k ≤ self.now.header.units }
-        ensures { result ≡ somewhere (λ i. outside self.now.header.n (sample_at self.now.bytes.now self.now.header.samples k i)) (numbers self.now.header) }
+        ensures { result ≡ column_outside self.now.bytes.now self.now.header k }
     {
         let union = (0..self.header.samples).fold(0, |union, i| union | self.sample(k, i));
         rules::outside(self.header.n, union)
@@ -53,7 +51,8 @@ impl Recording<'_> {
 
     // Some unit that is present has such a sample.
     fn some_outside(&self) -> bool
-        ensures { result ≡ some_below self.now.header.units (λ k. somewhere (λ i. outside self.now.header.n (sample_at self.now.bytes.now self.now.header.samples (k + 1) i)) (numbers self.now.header)) }
+        ensures { result ≡ some_below self.now.header.units
+            (λ k. column_outside self.now.bytes.now self.now.header (k + 1)) }
     {
         (0..self.header.units).any(|unit| self.column_outside(unit + 1))
     }
