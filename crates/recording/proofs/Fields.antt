@@ -1,29 +1,20 @@
 -- Numbers that were put into bytes read back: one field, a list of them, and so a column, wherever it stands.
-use Prim.Native.Nat.{ℕ, zero, suc, ◌+◌, ◌*◌, ◌/◌, ◌%◌, ◌^◌, ◌<◌}
+use Prim.Native.Nat.{ℕ, zero, suc, ◌+◌, ◌*◌, ◌^◌, ◌<◌}
 use mathlib.Core.Path.{◌≡◌, ◌∙◌}
 use mathlib.Core.List.{List, [], ◌∷◌, ◌++◌}
-use native.Mathlib.Nat.{div-div-eq-div-mul, div-add-mod', mod-eq_of_lt, add_assoc}
+use native.Mathlib.Nat.{add_assoc}
 use native.Mathlib.Omega.{arith}
 use lib.ListN.{length, get_or}
 use lib.Seq.{get_or-append-add, ext_get_or}
+use Rattle.std.proofs.lemmas.Nat.{from_le_bytes-to_le_bytes_4}
 use Rattle.rules.specs.Signals.{as_list}
 use Rattle.rules.proofs.Signals.{list_length, list_at}
 use Rattle.recording.specs.Fields.{field_bytes, fields_of}
 use Rattle.recording.specs.Recording.{field, column_at, sample_at}
 
-add_up :
-    (b0 b1 b2 b3 q1 q2 q3 w : ℕ) → q1 * 256 + b0 ≡ w → q2 * 256 + b1 ≡ q1 → q3 * 256 + b2 ≡ q2 → b3 ≡ q3
-    → b0 + 256 * b1 + 65536 * b2 + 16777216 * b3 ≡ w
-add_up b0 b1 b2 b3 q1 q2 q3 w e1 e2 e3 e4 = omega arith
-
 -- a number's four bytes
 bytes_read : (w : ℕ) (rest : List ℕ) → w < 2 ^ 32 → field (field_bytes w ++ rest) 0 ≡ w
-bytes_read w rest h =
-    let e1 : w / 256 * 256 + w % 256 ≡ w = div-add-mod' w 256 in
-    let e2 : w / 65536 * 256 + w / 256 % 256 ≡ w / 256 = rw (← div-div-eq-div-mul w 256 256) (div-add-mod' (w / 256) 256) in
-    let e3 : w / 16777216 * 256 + w / 65536 % 256 ≡ w / 65536 = rw (← div-div-eq-div-mul w 65536 256) (div-add-mod' (w / 65536) 256) in
-    let e4 : w / 16777216 % 256 ≡ w / 16777216 = mod-eq_of_lt (omega arith) in
-    add_up (w % 256) (w / 256 % 256) (w / 65536 % 256) (w / 16777216 % 256) (w / 256) (w / 65536) (w / 16777216) w e1 e2 e3 e4
+bytes_read w rest h = omega (arith, from_le_bytes-to_le_bytes_4 w h)
 
 -- behind other bytes
 field_behind : (xs ys : List ℕ) (at : ℕ) → field (xs ++ ys) (length xs + at) ≡ field ys at
