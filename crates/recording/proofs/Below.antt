@@ -26,7 +26,7 @@ range_more : (a n : ℕ) → range_with_len a (suc n) ≡ range_with_len a n ++ 
 range_more a zero = let e : a + 0 ≡ a = omega arith in rw e
 range_more a (suc n) = let e : a + suc n ≡ a + 1 + n = omega arith in rw e (ap (λ xs. a ∷ xs) (range_more (a + 1) n))
 
-pub any_below : (f : ℕ → Bool) (n : ℕ) → list_any f (range_with_len 0 n) ≡ some_below n f
+any_below : (f : ℕ → Bool) (n : ℕ) → list_any f (range_with_len 0 n) ≡ some_below n f
 unfolding some_below
 any_below f zero = refl
 any_below f (suc n) =
@@ -66,7 +66,7 @@ pub first_below :
 first_below test n r e = sym (option_map_id r) ∙ e ∙ first_from test 0 n ∙ rw (list_of n, zero-add)
 
 -- some number has it where the first that has it is there
-pub any_is_somewhere : (test : ℕ → Bool) (xs : List ℕ) → list_any test xs ≡ somewhere test xs
+any_is_somewhere : (test : ℕ → Bool) (xs : List ℕ) → list_any test xs ≡ somewhere test xs
 unfolding first_where
 any_is_somewhere test [] = refl
 any_is_somewhere test (x ∷ xs) = go (test x) _ _ (any_is_somewhere test xs) where

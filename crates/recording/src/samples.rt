@@ -1,11 +1,11 @@
-// The samples of a recording whose layout is accepted: the first that is outside the width, and each column into a lent slice.
+// A recording whose layout is accepted: its first sample outside the width, and its columns into lent slices.
 ghost use Rattle.std.specs.Prelude.{◌≡◌, ◌+◌, ◌≤◌, ◌<◌, length};
 ghost use Rattle.rules.specs.Signals.{some_below};
 ghost use Rattle.recording.specs.Recording.{sample_at, outside_at, column_outside, first_outside, slice_after, Laid};
 
 use crate::{Header, column_at, field};
 
-// A recording whose layout is accepted: the columns of its header lie in its bytes.
+// The columns of the header lie in the bytes.
 #[derive(Clone, Copy)]
 pub(crate) struct Recording<'a> {
     pub(crate) bytes: &'a [u8],
@@ -19,10 +19,8 @@ impl Recording<'_> {
         requires { (k ≤ self.now.header.units) × (i < self.now.header.samples) }
         ensures { result ≡ sample_at self.now.bytes.now self.now.header.samples k i }
     {
-        field(
-            self.bytes,
-            column_at(self.header.samples, k) + 4 * i as usize,
-        )
+        let at = column_at(self.header.samples, k) + 4 * i as usize;
+        field(self.bytes, at)
     }
 
     // 6, of sample i: a unit that is present shows a word outside the width.
@@ -40,7 +38,7 @@ impl Recording<'_> {
         (0..self.header.samples).find(|i| self.outside_at(*i))
     }
 
-    // Some sample of column k is outside the width exactly when the OR of all is; without a branch it becomes wide code.
+    // Some sample of column k is outside the width exactly when the OR of all is, which becomes wide code.
     fn column_outside(&self, k: u32) -> bool
         requires { k ≤ self.now.header.units }
         ensures { result ≡ column_outside self.now.bytes.now self.now.header k }

@@ -1,4 +1,4 @@
--- `recording::samples::Recording::column_outside` meets its contract: the OR of all samples is outside exactly when one of them is.
+-- `recording::samples::Recording::column_outside` meets its contract: the OR of all is outside exactly when one of them is.
 use mathlib.Core.Path.{◌≡◌, sym, ◌∙◌}
 use mathlib.Core.Bool.{◌||◌, or-false, or_assoc}
 use mathlib.Core.List.{List, [], ◌∷◌}
