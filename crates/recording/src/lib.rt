@@ -163,7 +163,7 @@ fn judged(bytes: &[u8], mislent: bool) -> RecordingRead
     }
     let header = read_header(bytes);
     let recording = Recording { bytes, header };
-    if let Some(sample) = recording.outsider() {
+    if let Some(sample) = recording.first_outside() {
         return refused(6, sample);
     }
     RecordingRead {

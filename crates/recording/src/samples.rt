@@ -31,13 +31,6 @@ impl Recording<'_> {
         (0..self.header.units).any(|k| rules::outside(self.header.n, self.sample(k + 1, i)))
     }
 
-    // The number of the first such sample.
-    fn first_outside(&self) -> Option<u32>
-        ensures { result ≡ first_outside self.now.bytes.now self.now.header }
-    {
-        (0..self.header.samples).find(|i| self.outside_at(*i))
-    }
-
     // Some sample of column k is outside the width exactly when the OR of all is, which becomes wide code.
     fn column_outside(&self, k: u32) -> bool
         requires { k ≤ self.now.header.units }
@@ -56,14 +49,13 @@ impl Recording<'_> {
     }
 
     // The number of the first sample outside the width, searched only where there is one.
-    pub(crate) fn outsider(&self) -> Option<u32>
+    pub(crate) fn first_outside(&self) -> Option<u32>
         ensures { result ≡ first_outside self.now.bytes.now self.now.header }
     {
-        if self.some_outside() {
-            self.first_outside()
-        } else {
-            None
+        if !self.some_outside() {
+            return None;
         }
+        (0..self.header.samples).find(|i| self.outside_at(*i))
     }
 
     // The column k on the first places of a slice; an absent unit's slice stays.

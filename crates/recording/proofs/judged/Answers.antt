@@ -31,11 +31,11 @@ invariant_of-recording c =
 pub returns-in-Some : goal.returns-in-Some
 returns-in-Some c =
     let a = c.args in
-    let found = rw c.read_header-header.ensures at c.outsider.ensures in
+    let found = rw c.read_header-header.ensures at c.first_outside.ensures in
     c.refused-in-Some.ensures ∙ sample_refused a.mislent a.bytes.now (sym c.shape_refusal-refusal.ensures ∙ c.if-refusal-ne0.false) (sym found ∙ c.in-Some.is)
 
 pub returns : goal.returns
 returns c =
     let a = c.args in
-    let found = rw c.read_header-header.ensures at c.outsider.ensures in
+    let found = rw c.read_header-header.ensures at c.first_outside.ensures in
     rw c.read_header-header.ensures (accepted a.mislent a.bytes.now (sym c.shape_refusal-refusal.ensures ∙ c.if-refusal-ne0.false) (sym found ∙ c.in_default.is))
