@@ -1,105 +1,61 @@
 // The calls of confirmation.
-use confirm::{Confirm, ConfirmMade};
-use lines::{input, output, room, runs, states};
-
-fn print_state(s: Confirm) {
-    states::print_confirm(s);
-    output::end_line();
-}
+use confirm::{Confirm, ConfirmAnswer, ConfirmMade};
+use lines::place::PLACES;
+use lines::{input, output, runs, states};
 
 fn print_made(made: ConfirmMade) {
     output::first(made.refusal);
-    let s = made.state;
-    print_state(s);
+    states::print_confirm(made.state);
+}
+
+fn print_answer(answer: ConfirmAnswer) {
+    output::first(answer.number());
+    output::next(answer.word());
+    output::next(answer.mark());
 }
 
 fn step() {
     let s = states::read_confirm();
-    let x = input::number();
-    let taken = s.step(x);
-    let answer = taken.answer;
-    output::first(answer.number());
-    output::next(answer.word());
-    output::next(answer.mark() as u32);
-    let left = taken.state;
-    print_state(left);
+    let taken = s.step(input::number());
+    print_answer(taken.answer);
+    states::print_confirm(taken.state);
 }
 
 fn new() {
-    let n = input::number();
-    let need = input::number();
+    let [n, need] = input::numbers::<2>();
     print_made(Confirm::new(n, need));
 }
 
 fn from_word() {
-    let n = input::number();
-    let need = input::number();
-    let word = input::number();
+    let [n, need, word] = input::numbers::<3>();
     print_made(Confirm::from_word(n, need, word));
 }
 
-fn run_on(
-    n: u32,
-    need: u32,
-    word: u32,
-    samples: &[u32],
-    words: &mut [u32],
-    marks: &mut [u8],
-    counts: &mut [u32],
-) {
+fn run() {
+    let [n, need, word] = input::numbers::<3>();
+    let mut samples = [0u32; PLACES];
+    let mut words = [0u32; PLACES];
+    let mut marks = [0u8; PLACES];
+    let mut counts = [0u32; PLACES];
+    let samples = input::list(&mut samples);
+    let words = input::lent(&mut words);
+    let marks = input::lent(&mut marks);
+    let counts = input::lent(&mut counts);
     let answer = confirm::run(n, need, word, samples, words, marks, counts);
     runs::print_answer(answer);
     output::slice(words);
-    output::bytes(marks);
+    output::slice(marks);
     output::slice(counts);
-    output::end_line();
-}
-
-// A run lent the first places of each slice, as many as its line says.
-fn run_in(samples: &mut [u32], words: &mut [u32], marks: &mut [u8], counts: &mut [u32]) {
-    let n = input::number();
-    let need = input::number();
-    let word = input::number();
-    let k = input::list(samples);
-    let w = input::lent(words);
-    let m = input::lent_bytes(marks);
-    let c = input::lent(counts);
-    run_on(
-        n,
-        need,
-        word,
-        &samples[..k],
-        &mut words[..w],
-        &mut marks[..m],
-        &mut counts[..c],
-    );
-}
-
-fn run() {
-    let mut samples = room::places();
-    let mut words = room::places();
-    let mut marks = room::byte_places();
-    let mut counts = room::places();
-    run_in(&mut samples, &mut words, &mut marks, &mut counts);
 }
 
 // Makes the call of this name; false if there is none.
 pub fn answer(name: &[u8]) -> bool {
-    if check::same(name, b"confirm.step") {
-        step();
-        return true;
+    match name {
+        b"confirm.step" => step(),
+        b"confirm.run" => run(),
+        b"confirm.new" => new(),
+        b"confirm.from_word" => from_word(),
+        _ => return false,
     }
-    if check::same(name, b"confirm.run") {
-        run();
-        return true;
-    }
-    if check::same(name, b"confirm.new") {
-        new();
-        return true;
-    }
-    if check::same(name, b"confirm.from_word") {
-        from_word();
-        return true;
-    }
-    false
+    true
 }

@@ -1,62 +1,49 @@
 // The tokens of a call: its name, numbers, and lists. Each reader takes its token and the one byte after it.
-ghost use Rattle.std.specs.Prelude.{◌≡◌, ◌≤◌, length};
+ghost use Rattle.std.specs.Prelude.{◌≤◌, length};
 
-// What `byte` gives at the end of the input.
-const END: u32 = 256;
+use crate::place::Place;
 
-// A number, and the byte that ended it.
-#[derive(Clone, Copy)]
+const IN: i32 = 0;
+
+// The least number that has no tenfold in a u64.
+const TENTH: u64 = u64::MAX / 10 + 1;
+
+// A number, and the byte that ended it, if the input did not.
+#[derive(Drop)]
 struct Token {
     value: u64,
-    after: u32,
+    after: Option<u8>,
 }
 
-// A byte as a number: a cast of an element would ask for its range.
-pub fn wide(b: u8) -> u32
-    ensures { result ≡ b }
-{
-    b as u32
-}
-
-fn byte() -> u32 {
-    let mut one = [0u8; 1];
-    let got = io::read_full(0, &mut one);
-    if got == 0 {
-        return END;
+fn byte() -> Option<u8> {
+    let mut one = [0];
+    if io::read_full(IN, &mut one) == 0 {
+        return None;
     }
-    wide(one[0])
+    Some(one[0])
 }
 
-// The bytes up to the next space or line end, as far as there is room; how many there are.
-pub fn name(into: &mut [u8]) -> usize
-    ensures { result ≤ length into.old }
-{
-    let mut at = 0;
-    while at < into.len() {
-        let b = byte();
-        let ends = (b <= 32) | (b >= END);
-        if ends {
-            return at;
+// The bytes up to the next space or line end, as far as there is room.
+pub fn name(into: &mut [u8]) -> &[u8] {
+    for (i, place) in into.iter_mut().enumerate() {
+        match byte() {
+            Some(b) if b > b' ' => *place = b,
+            _ => return &into[..i],
         }
-        into[at] = (b % 256) as u8;
-        at += 1;
     }
-    at
+    into
 }
 
 // Decimal digits, at most 20: a u64 has no more.
 fn read_token() -> Token {
     let mut value: u64 = 0;
-    let mut digits: u32 = 0;
-    while digits < 20 {
-        let b = byte();
-        let ends = (b < 48) | (b > 57);
-        if ends {
-            return Token { value, after: b };
+    for _ in 0..20 {
+        match byte() {
+            Some(b) if b.is_ascii_digit() => {
+                value = (value % TENTH * 10).wrapping_add(u64::from(b - b'0'));
+            }
+            after => return Token { value, after },
         }
-        let tens = value % 1844674407370955162 * 10;
-        value = std::num::wrapping_add_u64(tens, (b % 48) as u64);
-        digits += 1;
     }
     Token {
         value,
@@ -64,111 +51,49 @@ fn read_token() -> Token {
     }
 }
 
-fn narrow(value: u64) -> u32 {
-    (value % 4294967296) as u32
-}
-
-pub fn number() -> u32 {
-    narrow(wide_number())
-}
-
 pub fn wide_number() -> u64 {
     read_token().value
 }
 
-// Stores a value at some places from `at` on, as far as there is room; the next place.
-fn put_run(into: &mut [u32], at: usize, value: u32, times: u32) -> usize
-    requires { at ≤ length into.old }
-    ensures { (at ≤ result) × (result ≤ length into.old) }
+pub fn number() -> u32 {
+    u32::cut(wide_number())
+}
+
+// The numbers that a call takes next.
+pub fn numbers<const N: usize>() -> [u32; N] {
+    std::array::from_fn(|_| number())
+}
+
+// Fills the first places, as many as are wanted and there are: how many.
+fn put_run<T: Place>(into: &mut [T], value: T, times: u32) -> usize
+    ensures { result ≤ length into.old }
 {
-    let mut next = at;
-    let mut left = times;
-    while left > 0 {
-        if next >= into.len() {
-            return next;
-        }
-        into[next] = value;
-        next += 1;
-        left -= 1;
+    let end = into.len().min(times as usize);
+    for place in &mut into[..end] {
+        *place = value;
     }
-    next
+    end
 }
 
 // LIST: how many there are, then each as `v` or `v*t`. The places filled.
-pub fn list(into: &mut [u32]) -> usize
-    ensures { result ≤ length into.old }
-{
+pub fn list<T: Place>(into: &mut [T]) -> &mut [T] {
     let count = number();
     let mut at = 0;
-    let mut tokens = 0;
-    while tokens < count {
+    for _ in 0..count {
         if at >= count as usize {
-            return at;
+            break;
         }
-        let item = read_token();
-        let mut times = 1;
-        if item.after == 42 {
-            times = number();
-        }
-        at = put_run(into, at, narrow(item.value), times);
-        tokens += 1;
+        let Token { value, after } = read_token();
+        let times = if after == Some(b'*') { number() } else { 1 };
+        at += put_run(&mut into[at..], T::cut(value), times);
     }
-    at
+    &mut into[..at]
 }
 
 // LENT: the length of a slice and what each place holds.
-pub fn lent(into: &mut [u32]) -> usize
-    ensures { result ≤ length into.old }
-{
+pub fn lent<T: Place>(into: &mut [T]) -> &mut [T] {
     let len = number();
-    let fill = number();
-    put_run(into, 0, fill, len)
-}
-
-// The same for bytes; a byte that is given as a greater number is cut.
-fn put_bytes(into: &mut [u8], at: usize, value: u32, times: u32) -> usize
-    requires { at ≤ length into.old }
-    ensures { (at ≤ result) × (result ≤ length into.old) }
-{
-    let byte = (value % 256) as u8;
-    let mut next = at;
-    let mut left = times;
-    while left > 0 {
-        if next >= into.len() {
-            return next;
-        }
-        into[next] = byte;
-        next += 1;
-        left -= 1;
-    }
-    next
-}
-
-pub fn byte_list(into: &mut [u8]) -> usize
-    ensures { result ≤ length into.old }
-{
-    let count = number();
-    let mut at = 0;
-    let mut tokens = 0;
-    while tokens < count {
-        if at >= count as usize {
-            return at;
-        }
-        let item = read_token();
-        let mut times = 1;
-        if item.after == 42 {
-            times = number();
-        }
-        at = put_bytes(into, at, narrow(item.value), times);
-        tokens += 1;
-    }
-    at
-}
-
-pub fn lent_bytes(into: &mut [u8]) -> usize
-    ensures { result ≤ length into.old }
-{
-    let len = number();
-    let fill = number();
-    put_bytes(into, 0, fill, len)
+    let value = T::cut(wide_number());
+    let end = put_run(into, value, len);
+    &mut into[..end]
 }

@@ -10,7 +10,6 @@ pub fn print_answer(answer: RunAnswer) {
 pub fn print_voted(answer: RunAnswer, words: &[u32], marks: &[u8], which: &[u8]) {
     print_answer(answer);
     output::slice(words);
-    output::bytes(marks);
-    output::bytes(which);
-    output::end_line();
+    output::slice(marks);
+    output::slice(which);
 }

@@ -1,15 +1,11 @@
-// The states that more than one room's calls have, and the answers of a vote.
+// The states that more than one room's calls have, and the answers of a vote of two words.
 use crate::{input, output};
 use confirm::Confirm;
 use vote::{Vote, VoteAnswer};
 
 // STATE of confirmation: n, N, previous input, previous output, count.
 pub fn read_confirm() -> Confirm {
-    let n = input::number();
-    let need = input::number();
-    let input = input::number();
-    let output = input::number();
-    let count = input::number();
+    let [n, need, input, output, count] = input::numbers::<5>();
     Confirm {
         n,
         need,
@@ -20,19 +16,12 @@ pub fn read_confirm() -> Confirm {
 }
 
 pub fn print_confirm(s: Confirm) {
-    output::next(s.n);
-    output::next(s.need);
-    output::next(s.input);
-    output::next(s.output);
-    output::next(s.count);
+    output::numbers(&[s.n, s.need, s.input, s.output, s.count]);
 }
 
 // STATE of the vote of two words: n, N, last agreed word, count.
 pub fn read_vote() -> Vote {
-    let n = input::number();
-    let need = input::number();
-    let word = input::number();
-    let count = input::number();
+    let [n, need, word, count] = input::numbers::<4>();
     Vote {
         n,
         need,
@@ -42,14 +31,16 @@ pub fn read_vote() -> Vote {
 }
 
 pub fn print_vote(s: Vote) {
-    output::next(s.n);
-    output::next(s.need);
-    output::next(s.word);
-    output::next(s.count);
+    output::numbers(&[s.n, s.need, s.word, s.count]);
 }
 
 pub fn print_vote_answer(answer: VoteAnswer) {
     output::first(answer.number());
     output::next(answer.word());
-    output::next(answer.mark() as u32);
+    output::next(answer.mark());
+}
+
+// Which unit still shows the last agreed word.
+pub fn print_which(answer: VoteAnswer) {
+    output::next(answer.which());
 }

@@ -1,173 +1,86 @@
 // The calls of the tuple vote.
-use lines::{input, output, room, runs, states};
-use tuple::{Tuple, TupleMade};
-
-fn read_counts() -> [u32; 32] {
-    let mut counts = [0u32; 32];
-    let mut i = 0usize;
-    while i < 32 {
-        counts[i] = input::number();
-        i += 1;
-    }
-    counts
-}
-
-fn print_counts(counts: [u32; 32]) {
-    let mut i = 0usize;
-    while i < 32 {
-        output::next(counts[i]);
-        i += 1;
-    }
-}
+use lines::place::PLACES;
+use lines::{input, output, runs, states};
+use tuple::{Tuple, TupleAnswer, TupleMade};
 
 // STATE: the voters' count, the confirmation's, the agreed signals as one word, 32 counts.
 fn read_state() -> Tuple {
-    let votes = input::number();
-    let confirm = states::read_confirm();
-    let agreed = input::number();
-    let counts = read_counts();
     Tuple {
-        votes,
-        confirm,
-        agreed,
-        counts,
+        votes: input::number(),
+        confirm: states::read_confirm(),
+        agreed: input::number(),
+        counts: input::numbers(),
     }
 }
 
 fn print_state(s: Tuple) {
-    let confirm = s.confirm;
-    let counts = s.counts;
     output::next(s.votes);
-    states::print_confirm(confirm);
+    states::print_confirm(s.confirm);
     output::next(s.agreed);
-    print_counts(counts);
-    output::end_line();
+    output::numbers(&s.counts);
 }
 
 fn print_made(made: TupleMade) {
     output::first(made.refusal);
-    let s = made.state;
-    print_state(s);
+    print_state(made.state);
+}
+
+fn print_answer(answer: TupleAnswer) {
+    output::first(answer.number());
+    output::next(answer.word());
+    output::next(answer.mask());
+    output::next(answer.mark());
 }
 
 fn step() {
     let s = read_state();
-    let a = input::number();
-    let b = input::number();
+    let [a, b] = input::numbers::<2>();
     let taken = s.step(a, b);
-    let answer = taken.answer;
-    output::first(answer.number());
-    output::next(answer.word());
-    output::next(answer.mask());
-    output::next(answer.mark() as u32);
+    print_answer(taken.answer);
     output::next(taken.second);
-    let left = taken.state;
-    print_state(left);
+    print_state(taken.state);
 }
 
 fn new() {
-    let n = input::number();
-    let votes = input::number();
-    let need = input::number();
+    let [n, votes, need] = input::numbers::<3>();
     print_made(Tuple::new(n, votes, need));
 }
 
 fn from_word() {
-    let n = input::number();
-    let votes = input::number();
-    let need = input::number();
-    let word = input::number();
+    let [n, votes, need, word] = input::numbers::<4>();
     print_made(Tuple::from_word(n, votes, need, word));
 }
 
-fn run_on(
-    n: u32,
-    votes: u32,
-    need: u32,
-    word: u32,
-    a: &[u32],
-    b: &[u32],
-    words: &mut [u32],
-    masks: &mut [u32],
-    marks: &mut [u8],
-    seconds: &mut [u32],
-) {
+fn run() {
+    let [n, votes, need, word] = input::numbers::<4>();
+    let mut a = [0u32; PLACES];
+    let mut b = [0u32; PLACES];
+    let mut words = [0u32; PLACES];
+    let mut masks = [0u32; PLACES];
+    let mut marks = [0u8; PLACES];
+    let mut seconds = [0u32; PLACES];
+    let a = input::list(&mut a);
+    let b = input::list(&mut b);
+    let words = input::lent(&mut words);
+    let masks = input::lent(&mut masks);
+    let marks = input::lent(&mut marks);
+    let seconds = input::lent(&mut seconds);
     let answer = tuple::run(n, votes, need, word, a, b, words, masks, marks, seconds);
     runs::print_answer(answer);
     output::slice(words);
     output::slice(masks);
-    output::bytes(marks);
+    output::slice(marks);
     output::slice(seconds);
-    output::end_line();
-}
-
-// A run lent the first places of each slice, as many as its line says.
-fn run_in(
-    a: &mut [u32],
-    b: &mut [u32],
-    words: &mut [u32],
-    masks: &mut [u32],
-    marks: &mut [u8],
-    seconds: &mut [u32],
-) {
-    let n = input::number();
-    let votes = input::number();
-    let need = input::number();
-    let word = input::number();
-    let i = input::list(a);
-    let j = input::list(b);
-    let w = input::lent(words);
-    let k = input::lent(masks);
-    let m = input::lent_bytes(marks);
-    let s = input::lent(seconds);
-    run_on(
-        n,
-        votes,
-        need,
-        word,
-        &a[..i],
-        &b[..j],
-        &mut words[..w],
-        &mut masks[..k],
-        &mut marks[..m],
-        &mut seconds[..s],
-    );
-}
-
-fn run() {
-    let mut a = room::places();
-    let mut b = room::places();
-    let mut words = room::places();
-    let mut masks = room::places();
-    let mut marks = room::byte_places();
-    let mut seconds = room::places();
-    run_in(
-        &mut a,
-        &mut b,
-        &mut words,
-        &mut masks,
-        &mut marks,
-        &mut seconds,
-    );
 }
 
 // Makes the call of this name; false if there is none.
 pub fn answer(name: &[u8]) -> bool {
-    if check::same(name, b"tuple.step") {
-        step();
-        return true;
+    match name {
+        b"tuple.step" => step(),
+        b"tuple.run" => run(),
+        b"tuple.new" => new(),
+        b"tuple.from_word" => from_word(),
+        _ => return false,
     }
-    if check::same(name, b"tuple.run") {
-        run();
-        return true;
-    }
-    if check::same(name, b"tuple.new") {
-        new();
-        return true;
-    }
-    if check::same(name, b"tuple.from_word") {
-        from_word();
-        return true;
-    }
-    false
+    true
 }

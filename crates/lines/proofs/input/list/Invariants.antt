@@ -1,9 +1,6 @@
--- `input::list` stays within the slice and ends.
-use Rattle.std.proofs.Common.{◌≡◌, ◌-◌, ◌≤◌, length}
+-- `input::list` stays within the slice.
+use Rattle.std.proofs.Common.{◌≤◌, length}
 use Rattle.lines.proofs.input.list.Given as goal
 
-abbrev pub invariant-loop-tokens : goal.invariant-loop-tokens
-invariant-loop-tokens l = (l.at ≤ length l.into) × (length l.into ≡ length l.initial.into)
-
-abbrev pub decreases-loop-tokens : goal.decreases-loop-tokens
-decreases-loop-tokens l = l.count - l.tokens
+abbrev pub invariant-loop : goal.invariant-loop
+invariant-loop g l = l.at ≤ length l.into

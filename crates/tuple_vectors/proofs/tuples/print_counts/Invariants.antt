@@ -1,9 +1,0 @@
--- `tuples::print_counts` stays inside its 32 places.
-use Prim.Native.Nat.{◌-◌, ◌≤◌}
-use Rattle.tuple_vectors.proofs.tuples.print_counts.Given as goal
-
-abbrev pub invariant-loop-i : goal.invariant-loop-i
-invariant-loop-i l = l.i ≤ 32
-
-abbrev pub decreases-loop-i : goal.decreases-loop-i
-decreases-loop-i l = 32 - l.i
