@@ -1,18 +1,17 @@
 -- Laws of digits: how many there are, and the two loops that count and write them.
 use mathlib.Core.Path.{◌≡◌, refl, ap, ◌∙◌}
 use mathlib.Core.Bool.{Bool, true, false}
-use mathlib.Core.List.{List, [], ◌∷◌}
+use mathlib.Core.List.{List, [], ◌∷◌, ◌++◌, append_assoc}
 use Prim.Native.Nat.{ℕ, zero, suc, ◌+◌, ◌-◌, ◌/◌, ◌%◌, ◌^◌, ◌<◌, ◌≤◌}
 use native.Mathlib.Nat.{div-lt_iff_lt-mul, pow-suc}
 use native.Mathlib.Numerals.{add-one}
 use native.Mathlib.Omega.{arith}
 use lib.Dec.{ltb}
-use lib.ListN.{length, set, length-append}
+use lib.ListN.{length, drop, set, length-append}
 use borrow.Author.Tests.{lt-ltb, le-ltb}
 use Rattle.std.specs.Prelude.{if◌then◌else◌}
+use Rattle.std.proofs.lemmas.List.{drop-set}
 use Rattle.text.specs.Text.{bytes, glyph, digits, places_up_to, places, decimal, hex8, line}
-use Rattle.text.specs.Put.{laid}
-use Rattle.text.proofs.Laws.{laid_nothing, laid_last}
 
 pub digits_length : (base k n : ℕ) → length (digits base k n) ≡ k
 unfolding digits
@@ -95,17 +94,12 @@ places_exactly j n l low high = omega (arith, places_few j n high, many_up_to 9 
 
 -- a digit is stored, and those before it are still to come
 pub store_digit :
-    (base i rest at g : ℕ) (out : List ℕ) → 0 < i → g ≡ glyph (rest % base) → at + i ≤ length out
-    → laid (set out (at + (i - 1)) g) at (digits base (i - 1) (rest / base)) ≡ laid out at (digits base i rest)
+    (base i rest g : ℕ) (place whole : List ℕ) → 0 < i → i ≤ length place → g ≡ glyph (rest % base)
+    → digits base i rest ++ drop i place ≡ whole
+    → digits base (i - 1) (rest / base) ++ drop (i - 1) (set place (i - 1) g) ≡ whole
 unfolding digits
-store_digit base zero rest at g out h q l = absurd (omega arith)
-store_digit base (suc i) rest at g out h q l =
-    let s = digits base i (rest / base) in
+store_digit base zero rest g place whole h l q e = absurd (omega arith)
+store_digit base (suc i) rest g place whole h l q e =
     let p : suc i - 1 ≡ i = omega arith in
-    let e = digits_length base i (rest / base) in
-    rw (p, ← q) (rw e at (laid_last out at g s (omega arith)))
-
-pub store_done : (base i rest at : ℕ) (out : List ℕ) → i ≤ 0 → laid out at (digits base i rest) ≡ out
-unfolding digits
-store_done base zero rest at out h = laid_nothing out at
-store_done base (suc i) rest at out h = absurd (omega arith)
+    let here = drop-set place i g (omega arith) in
+    rw (p, here, q, add-one) (rw (append_assoc (digits base i (rest / base)) (glyph (rest % base) ∷ []) (drop (suc i) place)) at e)

@@ -1,16 +1,18 @@
 -- Laws of text in a buffer: what is laid after another text, or in front of it; the two ways a call places a text; and THE law
 -- of pieces, `and_then`.
-use mathlib.Core.Path.{◌≡◌, sym, ap, ◌∙◌}
+use mathlib.Core.Path.{◌≡◌, refl, sym, ap, ◌∙◌}
 use mathlib.Core.List.{List, [], ◌∷◌, ◌++◌, append_assoc, append-nil}
-use mathlib.Core.Bool.{false}
-use Prim.Native.Nat.{ℕ, suc, ◌+◌, ◌<◌, ◌≤◌}
-use native.Mathlib.Nat.{add_assoc, add-zero}
+use mathlib.Core.Bool.{Bool, true, false}
+use Prim.Native.Nat.{ℕ, ◌+◌, ◌-◌, ◌<◌, ◌≤◌}
+use native.Mathlib.Nat.{add_assoc, add-zero, zero-add}
 use native.Mathlib.Numerals.{add-one}
 use native.Mathlib.Omega.{arith}
-use lib.ListN.{length, take, drop, set, length-append, length-drop, take-append-drop}
-use lib.Seq.{length-take-le, take_at, drop_at, drop-drop, set_split, take-set-le}
+use lib.Dec.{leb}
+use lib.ListN.{length, take, drop, set, length-set, length-append, length-drop, take-append-drop, drop_of_length-le}
+use lib.Seq.{length-take-le, take_at, drop_at, drop-drop, set_split}
 use borrow.Author.Tests.{le-leb}
-use Rattle.text.specs.Put.{laid, fits, Placed, Wrote, Writes}
+use borrow.Rule.Slice.PartMut.{mid_of, mid_len, put_mid}
+use Rattle.text.specs.Put.{laid, fits, Placed, Writes}
 
 -- no text leaves the buffer as it was
 pub laid_nothing : (old : List ℕ) (at : ℕ) → laid old at [] ≡ old
@@ -46,37 +48,35 @@ module _ (old : List ℕ) (at : ℕ) (s : List ℕ) (h : at + length s ≤ lengt
         add_assoc,
       )
 
--- a byte is stored first, and the text after it then
-pub laid_first : (old : List ℕ) (at b : ℕ) (s : List ℕ) → at < length old → laid (set old at b) (at + 1) s ≡ laid old at (b ∷ s)
-laid_first old at b s h = rw (laid_byte old at b h) (laid_after old at (b ∷ []) (omega arith) s)
-
--- a byte is stored first, and the text before it then
-pub laid_last :
-    (old : List ℕ) (at b : ℕ) (s : List ℕ) → at + length s < length old
-    → laid (set old (at + length s) b) at s ≡ laid old at (s ++ (b ∷ []))
+-- a part of the buffer that was written is laid
+laid_part : (old : List ℕ) (at k : ℕ) (text : List ℕ) → length text ≡ k → put_mid at k old text ≡ laid old at text
 unfolding laid
-laid_last old at b s h =
-    let j = at + length s in
-    let k : j ≤ length old = omega arith in
-    rw (
-      take-set-le at old j b (omega arith),
-      set_split old j b h,
-      drop_at (take j old) (b ∷ drop (suc j) old) j (length-take-le j old k),
-      length-append,
-      ← add_assoc at (length s) 1,
-      add-one,
-    )
-    (simp append_assoc)
+laid_part old at k text e = rw (← e, drop-drop, append_assoc)
+
+-- a part of the buffer has as many places as its range says
+pub part_length : (old : List ℕ) (at k : ℕ) → at + k ≤ length old → length (mid_of at (at + k - at) old) ≡ k
+part_length old at k h =
+    let e : at + k - at ≡ k = omega arith in
+    mid_len at (at + k) old h ∙ e
+
+-- a text as long as the buffer is all that is left of it
+pub laid_whole : (old text : List ℕ) → length text ≡ length old → laid old 0 text ≡ text
+unfolding laid
+laid_whole old text e = let none = drop_of_length-le old {i = length text} (omega arith) in rw (zero-add, none, append-nil)
 
 module _ {old : List ℕ} {at : ℕ} {text : List ℕ} where
-  -- a call places a text: it was written, or there is no room and nothing happened
-  pub placed : {r : ℕ} {new : List ℕ} → Wrote old at text r new → Placed old at text r new
-  placed {r} {new} w =
-      let h : at + length text ≤ length old = omega arith in
-      record { next = rw (le-leb _ _ h) w.next; buffer = rw (le-leb _ _ h) w.buffer }
+  -- a call places a text, by its test of the room: the part of the buffer that is the text's was written, or nothing happened
+  pub placed : (k : ℕ) {room : Bool} {new : List ℕ} → length text ≡ k → room ≡ leb (at + k) (length old) → room ≡ true → new ≡ text
+      → Placed old at text (at + k) (put_mid at (at + k - at) old new)
+  placed k e r t w =
+      let fit : fits old at text ≡ true = rw e (sym r ∙ t) in
+      let same : length text ≡ at + k - at = omega arith in
+      record { next = rw (fit, e); buffer = rw (fit, w, laid_part old at (at + k - at) text same) }
 
-  pub kept : fits old at text ≡ false → Placed old at text at old
-  kept e = record { next = rw e; buffer = rw e }
+  pub kept : (k : ℕ) {room : Bool} → length text ≡ k → room ≡ leb (at + k) (length old) → room ≡ false → Placed old at text at old
+  kept k e r f =
+      let fit : fits old at text ≡ false = rw e (sym r ∙ f) in
+      record { next = rw fit; buffer = rw fit }
 
   -- where there is room, it was written
   pub written : {r : ℕ} {new : List ℕ} → Placed old at text r new → Writes old at text r new
@@ -84,16 +84,12 @@ module _ {old : List ℕ} {at : ℕ} {text : List ℕ} where
       let e = rw (le-leb _ _ h) at p.next in
       record { next = e; room = omega arith; buffer = rw (le-leb _ _ h) at p.buffer }
 
--- what was written was written if there was room
-pub wrote : {old : List ℕ} {at : ℕ} {text : List ℕ} {r : ℕ} {new : List ℕ} → Wrote old at text r new → Writes old at text r new
-wrote w h = w
+-- a byte that was stored, and a part that was written, were written if there was room
+pub stored : {old : List ℕ} {at : ℕ} (b : ℕ) → Writes old at (b ∷ []) (at + 1) (set old at b)
+stored {old} {at} b h = record { next = refl; room = omega (arith, length-set old at b); buffer = laid_byte old at b (omega arith) }
 
--- of the room for a text and k bytes more the k are left after it
-pub room_left : {old : List ℕ} {at : ℕ} {text : List ℕ} {r : ℕ} {new : List ℕ} (k : ℕ)
-    → Wrote old at text r new → at + (length text + k) ≤ length old → r + k ≤ length new
-room_left {old} {at} {text} {new = new} k w h =
-    let same : length new ≡ length old = ap length w.buffer ∙ laid_length old at text (omega arith) in
-    omega arith
+pub filled : {old : List ℕ} {at k : ℕ} {text : List ℕ} → length text ≡ k → Writes old at text (at + k) (put_mid at k old text)
+filled {old} {at} {k} {text} e h = record { next = ap (λ (n : ℕ). at + n) (sym e); room = omega arith; buffer = laid_part old at k text e }
 
 -- THE LAW OF PIECES: one text, and another from the place that the first call answered, are the two in a row
 pub and_then : {old : List ℕ} {at : ℕ} {s : List ℕ} {r : ℕ} {mid t : List ℕ} {r' : ℕ} {new : List ℕ}

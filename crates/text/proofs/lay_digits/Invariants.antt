@@ -1,13 +1,9 @@
--- `text::lay_digits` meets its contract. The invariant: the first i digits, those of what is left, laid at the place, give the whole.
+-- `text::lay_digits` meets its contract. The invariant: the first i digits, those of what is left, and what was written give the whole.
 use mathlib.Core.Path.{◌≡◌}
-use Prim.Native.Nat.{◌≤◌}
-use lib.ListN.{length}
-use Rattle.text.specs.Put.{laid}
+use mathlib.Core.List.{◌++◌}
+use lib.ListN.{length, drop}
 use Rattle.text.specs.Text.{digits}
 use Rattle.text.proofs.lay_digits.Given as goal
 
 abbrev pub invariant-loop-i : goal.invariant-loop-i
-invariant-loop-i l = (l.i ≤ l.k) × (length l.out ≡ length l.initial.out) × (laid l.out l.at (digits 10 l.i l.rest) ≡ laid l.initial.out l.at (digits 10 l.k l.n))
-
-abbrev pub decreases-loop-i : goal.decreases-loop-i
-decreases-loop-i l = l.i
+invariant-loop-i g l = digits g.row.BASE l.i l.rest ++ drop l.i l.place ≡ digits g.row.BASE (length l.initial.place) l.initial.rest

@@ -1,61 +1,38 @@
--- `text::lay_line` meets its contract: each piece leaves the room for those after it, and one after the other they are the line.
-use Prim.Native.Nat.{◌+◌, ◌≤◌}
+-- `text::lay_line` meets its contract: one after the other, the pieces are the line.
+use mathlib.Core.Path.{◌≡◌, ◌∙◌}
+use mathlib.Core.List.{List, [], ◌∷◌, ◌++◌, append_assoc}
+use Prim.Native.Nat.{ℕ}
 use native.Mathlib.Omega.{arith}
-use lib.ListN.{length}
-use Rattle.text.specs.Text.{bytes, line}
-use Rattle.text.proofs.Digits.{digits_length, hex_length, line_length}
-use Rattle.text.proofs.Laws.{wrote, and_then, room_left}
+use lib.ListN.{length, set, length-append}
+use borrow.Rule.Slice.PartMut.{put_mid}
+use Rattle.text.specs.Text.{bytes, places, hex8, line}
+use Rattle.text.proofs.Laws.{and_then, stored, filled, laid_whole}
+use Rattle.text.proofs.Digits.{hex_length}
 use Rattle.text.proofs.lay_line.Goals as goal
-use Rattle.text.proofs.lay_line.Goals.{After-lay_byte-at, After-lay_byte-at-2, After-lay_byte-at-3, After-lay_byte-at-4, After-lay_hex-at, After-lay_hex-at-2, After-lay_number-at}
 
-room1 : (c : After-lay_number-at) → c.lay_number-at.result + 21 ≤ length c.lay_number-at.new.out
-room1 c = let a = c.args in room_left 21 c.lay_number-at.ensures (omega (arith, digits_length 10 a.k a.number))
+-- what follows the number's digits
+rest_of : ℕ → ℕ → ℕ → List ℕ
+rest_of word letter last = bytes " " ++ hex8 word ++ bytes " " ++ (letter ∷ []) ++ bytes " " ++ hex8 last ++ bytes "\n"
 
-room2 : (c : After-lay_byte-at) → c.lay_byte-at.result + 20 ≤ length c.lay_byte-at.new.out
-room2 c = room_left 20 c.lay_byte-at.ensures (omega (arith, room1 c.before.before.before.before))
+rest_length : (word letter last : ℕ) → length (rest_of word letter last) ≡ 21
+unfolding bytes rest_of
+rest_length word letter last = simp (length-append, hex_length)
 
-room3 : (c : After-lay_hex-at) → c.lay_hex-at.result + 12 ≤ length c.lay_hex-at.new.out
-room3 c = room_left 12 c.lay_hex-at.ensures (rw hex_length (omega (arith, room2 c.before.before.before.before)))
-
-room4 : (c : After-lay_byte-at-2) → c.lay_byte-at-2.result + 11 ≤ length c.lay_byte-at-2.new.out
-room4 c = room_left 11 c.lay_byte-at-2.ensures (omega (arith, room3 c.before.before.before.before))
-
-room5 : (c : After-lay_byte-at-3) → c.lay_byte-at-3.result + 10 ≤ length c.lay_byte-at-3.new.out
-room5 c = room_left 10 c.lay_byte-at-3.ensures (omega (arith, room4 c.before.before.before.before))
-
-room6 : (c : After-lay_byte-at-4) → c.lay_byte-at-4.result + 9 ≤ length c.lay_byte-at-4.new.out
-room6 c = room_left 9 c.lay_byte-at-4.ensures (omega (arith, room5 c.before.before.before.before))
-
-room7 : (c : After-lay_hex-at-2) → c.lay_hex-at-2.result + 1 ≤ length c.lay_hex-at-2.new.out
-room7 c = room_left 1 c.lay_hex-at-2.ensures (rw hex_length (omega (arith, room6 c.before.before.before.before)))
+laid_rest : (old : List ℕ) (word letter last : ℕ) → length old ≡ 21
+    → set (put_mid 12 8 (set (set (set (put_mid 1 8 (set old 0 32) (hex8 word)) 9 32) 10 letter) 11 32) (hex8 last)) 20 10 ≡ rest_of word letter last
+unfolding bytes rest_of
+laid_rest old word letter last e =
+    let one = and_then (stored {old = old} {at = 0} 32) (filled {at = 1} {k = 8} (hex_length word)) in
+    let three = and_then (and_then (and_then one (stored {at = 9} 32)) (stored {at = 10} letter)) (stored {at = 11} 32) in
+    let pieces = and_then (and_then three (filled {at = 12} {k = 8} (hex_length last))) (stored {at = 20} 10) in
+    let long = rest_length word letter last in
+    (pieces (omega arith)).buffer ∙ laid_whole old (rest_of word letter last) (omega arith)
 
 pub returns : goal.returns
-unfolding line bytes
+unfolding line bytes rest_of
 returns c =
     let a = c.args in
-    let two = and_then (wrote c.lay_number-at.ensures) (wrote c.lay_byte-at.ensures) in
-    let four = and_then (and_then two (wrote c.lay_hex-at.ensures)) (wrote c.lay_byte-at-2.ensures) in
-    let six = and_then (and_then four (wrote c.lay_byte-at-3.ensures)) (wrote c.lay_byte-at-4.ensures) in
-    let pieces = and_then (and_then six (wrote c.lay_hex-at-2.ensures)) (wrote c.lay_byte.ensures) in
-    (rw c.requires.k_value at pieces) (omega (arith, line_length a.number a.word a.letter a.last, c.requires.k_value, c.requires.k_in_bounds))
-
-pub lay_byte-at-requires : goal.lay_byte-at-requires
-lay_byte-at-requires c = omega (arith, room1 c.before.before.before)
-
-pub lay_hex-at-requires : goal.lay_hex-at-requires
-lay_hex-at-requires c = omega (arith, room2 c.before.before.before)
-
-pub lay_byte-at-requires-2 : goal.lay_byte-at-requires-2
-lay_byte-at-requires-2 c = omega (arith, room3 c.before.before.before)
-
-pub lay_byte-at-requires-3 : goal.lay_byte-at-requires-3
-lay_byte-at-requires-3 c = omega (arith, room4 c.before.before.before)
-
-pub lay_byte-at-requires-4 : goal.lay_byte-at-requires-4
-lay_byte-at-requires-4 c = omega (arith, room5 c.before.before.before)
-
-pub lay_hex-at-requires-2 : goal.lay_hex-at-requires-2
-lay_hex-at-requires-2 c = omega (arith, room6 c.before.before.before)
-
-pub lay_byte-requires : goal.lay_byte-requires
-lay_byte-requires c = omega (arith, room7 c.before.before.before)
+    let split = c.split_at_mut-digits.ensures in
+    let k : length c.split_at_mut-digits.result.0.now ≡ places a.number = omega arith in
+    let rest = laid_rest c.split_at_mut-digits.result.1.now a.word a.letter a.last (omega arith) in
+    rw (c.lay_decimal.ensures, k, c.lay_hex.ensures, c.lay_hex-2.ensures, rest) (simp append_assoc)

@@ -1,35 +1,21 @@
--- `text::places` meets its contract: each test is a power of ten.
-use mathlib.Core.Path.{sym}
+-- `text::places` meets its contract: a number other than 0 has one place more than the greatest power of ten in it.
+use mathlib.Core.Path.{◌≡◌, ◌∙◌}
+use Prim.Native.Nat.{ℕ, zero, suc, ◌+◌, ◌*◌, ◌<◌, ◌≤◌, ◌^◌, max}
 use native.Mathlib.Omega.{arith}
+use native.Mathlib.Nat.{pow-suc}
+use native.Mathlib.Numerals.{add-one}
+use Rattle.text.specs.Text.{places}
 use Rattle.text.proofs.Digits.{places_one, places_exactly}
 use Rattle.text.proofs.places.Goals as goal
 
-pub returns-then-n-lt10 : goal.returns-then-n-lt10
-returns-then-n-lt10 c = sym (places_one 9 _ c.if-n-lt10.true)
-
-pub returns-then-n-lt100 : goal.returns-then-n-lt100
-returns-then-n-lt100 c = places_exactly 1 _ (omega arith) (omega arith) (omega arith)
-
-pub returns-then-n-lt1000 : goal.returns-then-n-lt1000
-returns-then-n-lt1000 c = places_exactly 2 _ (omega arith) (omega arith) (omega arith)
-
-pub returns-then-n-lt10000 : goal.returns-then-n-lt10000
-returns-then-n-lt10000 c = places_exactly 3 _ (omega arith) (omega arith) (omega arith)
-
-pub returns-then-n-lt100000 : goal.returns-then-n-lt100000
-returns-then-n-lt100000 c = places_exactly 4 _ (omega arith) (omega arith) (omega arith)
-
-pub returns-then-n-lt1000000 : goal.returns-then-n-lt1000000
-returns-then-n-lt1000000 c = places_exactly 5 _ (omega arith) (omega arith) (omega arith)
-
-pub returns-then-n-lt10000000 : goal.returns-then-n-lt10000000
-returns-then-n-lt10000000 c = places_exactly 6 _ (omega arith) (omega arith) (omega arith)
-
-pub returns-then-n-lt100000000 : goal.returns-then-n-lt100000000
-returns-then-n-lt100000000 c = places_exactly 7 _ (omega arith) (omega arith) (omega arith)
-
-pub returns-then-n-lt1000000000 : goal.returns-then-n-lt1000000000
-returns-then-n-lt1000000000 c = places_exactly 8 _ (omega arith) (omega arith) (omega arith)
+counted : (k m n : ℕ) → m ≡ max n 1 → 10 ^ k ≤ m → m < 10 * 10 ^ k → k < 10 → k + 1 ≡ places n
+counted k m zero e low high few =
+    let power = pow-suc 10 k in
+    omega (arith, places_exactly k m (omega arith) low (omega arith), places_one 9 m (omega arith), places_one 9 0 (omega arith))
+counted k m (suc n) e low high few =
+    let power = pow-suc 10 k in
+    let same : m ≡ suc n = omega arith in
+    add-one k ∙ (rw same at (places_exactly k m (omega arith) low (omega arith)))
 
 pub returns : goal.returns
-returns c = places_exactly 9 _ (omega arith) (omega arith) (omega arith)
+returns c = counted _ _ _ c.max.ensures c.ilog10.ensures.power_le c.ilog10.ensures.next_power_gt c.ilog10.ensures.bound

@@ -1,14 +1,10 @@
 -- `text::put_text` meets its contract.
-use mathlib.Core.Path.{sym, ◌∙◌}
-use borrow.Author.Tests.{leb-true}
+use mathlib.Core.Path.{refl}
 use Rattle.text.proofs.Laws.{placed, kept}
 use Rattle.text.proofs.put_text.Goals as goal
 
-pub lay_text-requires : goal.lay_text-requires
-lay_text-requires c = leb-true _ _ (sym c.has_room-room.ensures ∙ c.if-room.true)
+pub returns-then-not-has_room : goal.returns-then-not-has_room
+returns-then-not-has_room c = kept _ refl c.has_room.ensures c.if-not-has_room.true
 
 pub returns : goal.returns
-returns c = kept (sym c.has_room-room.ensures ∙ c.if-room.false)
-
-pub returns-then-room : goal.returns-then-room
-returns-then-room c = placed c.lay_text.ensures
+returns c = placed _ refl c.has_room.ensures c.if-not-has_room.false c.copy_from_slice.ensures.after
