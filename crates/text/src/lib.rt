@@ -2,7 +2,7 @@
 // the place after what it wrote, or, where there is no room, with the place itself.
 #![tactic(auto)]
 
-ghost use Rattle.std.specs.Prelude.{◌≡◌, [], ◌∷◌, ◌+◌, ◌≤◌, ◌<◌, leb, length};
+ghost use Rattle.std.specs.Prelude.{◌≡◌, [], ◌∷◌, ◌+◌, ◌≤◌, ◌<◌, leb, nat_lt, length, position};
 ghost use Rattle.text.specs.Text.{glyph, digits, places, decimal, hex8, line};
 ghost use Rattle.text.specs.Put.{Placed};
 
@@ -31,11 +31,15 @@ pub fn put_text(out: &mut [u8], at: usize, text: &[u8]) -> usize
     at + text.len()
 }
 
-// A digit's code, looked up: nothing foresees a test of each digit.
-fn glyph(d: u32) -> u8
-    requires { d < 16 }
+// A digit's code; one that may be a letter is looked up: nothing foresees a test of each digit.
+fn glyph<const BASE: u32>(d: u32) -> u8
+    requires digit { d < BASE }
+    requires known { BASE ≤ 16 }
     ensures { result ≡ glyph d }
 {
+    if BASE <= 10 {
+        return b'0' + d as u8;
+    }
     let glyphs = *b"0123456789abcdef";
     glyphs[d as usize]
 }
@@ -48,7 +52,7 @@ fn lay_digits<const BASE: u32>(place: &mut [u8], n: u32)
 {
     let mut rest = n;
     for i in (0..place.len()).rev() {
-        place[i] = glyph(rest % BASE);
+        place[i] = glyph::<BASE>(rest % BASE);
         rest /= BASE;
     }
 }
@@ -64,11 +68,26 @@ fn lay_decimal(place: &mut [u8], n: u32)
     }
 }
 
+// The smallest numbers of two digits, of three, and so on to ten.
+const POWERS: [u32; 9] = [
+    10, 100, 1000, 10000, 100000, 1000000, 10000000, 100000000, 1000000000,
+];
+
+// Which of them is the first above n.
+fn above(n: u32) -> Option<usize>
+    ensures { result ≡ position (λ power. nat_lt n power) POWERS }
+{
+    POWERS.iter().position(|power| n < *power)
+}
+
 // How many decimal digits n has.
 fn places(n: u32) -> usize
     ensures { result ≡ places n }
 {
-    n.max(1).ilog10() as usize + 1
+    match above(n) {
+        Some(k) => k + 1,
+        None => 10,
+    }
 }
 
 // A number in decimal, no zero in front.
