@@ -67,11 +67,9 @@ fn put_lines(
         (line_at kind words.now marks.now lasts.now)) result out.new }
 {
     let mut to = at;
-    let mut i = 0;
-    while i < words.len() {
+    for (i, word) in words.iter().enumerate() {
         let mark = letter(kind, marks[i]);
-        to = text::put_line(out, to, i as u32, words[i], mark, lasts[i]);
-        i += 1;
+        to = text::put_line(out, to, i as u32, *word, mark, lasts[i]);
     }
     to
 }

