@@ -36,8 +36,7 @@ fn passed(kind: Kind) -> u8
     ensures { result ≡ passed kind }
 {
     match kind {
-        Kind::Confirm => b'C',
-        Kind::Pair => b'C',
+        Kind::Confirm | Kind::Pair => b'C',
         Kind::Reserve => b'A',
     }
 }

@@ -1,6 +1,4 @@
 -- `sheet::put_lines` meets its contract. The invariant: the lines below i are written.
-use mathlib.Core.Path.{◌≡◌}
-use lib.ListN.{length}
 use Rattle.text.specs.Put.{Writes}
 use Rattle.listing.specs.Listing.{joined, line_at}
 use Rattle.listing.proofs.sheet.put_lines.Given as goal
