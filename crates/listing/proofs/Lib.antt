@@ -5,6 +5,7 @@ pub mod Joined
 pub mod Lines
 pub mod Never
 pub mod OneCount
+pub mod Pages
 pub mod ReadBack
 pub mod Reading
 pub mod Shown

@@ -1,9 +1,11 @@
 -- Serves proofs, and the statement of `one_never`: what the parts of the listing hand to each other, columns that a run accepts,
--- and room for what it writes.
+-- room for what it writes, and a page that is written on.
 use Rattle.std.specs.Prelude.{ℕ, ◌≤◌, ◌≡◌, false, List, ◌⊎◌, length}
 use Rattle.rules.specs.Limits.{bad_count, bad_width, outside}
 use Rattle.trace.specs.Samples.{somewhere}
 use Rattle.recording.specs.declared.Header.{Header}
+use Rattle.text.specs.Put.{Writes}
+use Rattle.listing.specs.declared.sheet.Page.{Page}
 
 -- a column that a run takes: a word for each sample, all inside the width
 pub record Column (h : Header) (xs : List ℕ) : Type 0 where
@@ -33,3 +35,8 @@ pub record Room (h : Header) (words marks lasts : List ℕ) : Type 0 where
 -- and in a slice for what a run writes and the listing does not show
 pub record Spare (h : Header) (told : List ℕ) : Type 0 where
   pub for_told : length told ≡ h.samples
+
+-- the page is the same buffer, and a text was written from its place on, if there was room
+pub record Adds (old new : Page) (text : List ℕ) : Type 0 where
+  pub same : new.out.ghost_name ≡ old.out.ghost_name
+  pub wrote : Writes old.out.now old.at text new.at new.out.now

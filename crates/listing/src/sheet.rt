@@ -1,34 +1,68 @@
-// The lines of a listing, put into a buffer one after the other. Each call answers with the place after what it wrote; that there is
-// room is known from the start, so a piece that had none would be no part of any promise.
-ghost use Rattle.std.specs.Prelude.{◌≡◌, ◌≤◌, length};
-ghost use Rattle.text.specs.Text.{bytes};
+// The lines of a listing, put into a buffer one after the other. That there is room is known from the start, so a piece that had none
+// would be no part of any promise.
+ghost use Rattle.std.specs.Prelude.{◌≡◌, ◌≤◌, [], ◌∷◌, length};
+ghost use Rattle.text.specs.Text.{bytes, decimal, line};
 ghost use Rattle.text.specs.Put.{Writes};
 ghost use Rattle.listing.specs.Listing.{name, heading, passed, letter, joined, line_at, listing_of, refused_text};
+ghost use Rattle.listing.specs.Runnable.{Adds};
 
 use crate::Kind;
 
-fn put_name(out: &mut [u8], at: usize, kind: Kind) -> usize
-    ensures { Writes out.old at (bytes (name kind)) result out.new }
+// A buffer, and the place up to which it is written.
+#[derive(Drop)]
+struct Page<'a> {
+    out: &'a mut [u8],
+    at: usize,
+}
+
+impl<'a> Page<'a> {
+    fn byte(&mut self, b: u8)
+        ensures { Adds self.old self.new (b ∷ []) }
+    {
+        self.at = text::put_byte(self.out, self.at, b);
+    }
+
+    fn text(&mut self, text: &[u8])
+        ensures { Adds self.old self.new text.now }
+    {
+        self.at = text::put_text(self.out, self.at, text);
+    }
+
+    fn decimal(&mut self, n: u32)
+        ensures { Adds self.old self.new (decimal n) }
+    {
+        self.at = text::put_decimal(self.out, self.at, n);
+    }
+
+    fn line(&mut self, number: u32, word: u32, letter: u8, last: u32)
+        ensures { Adds self.old self.new (line number word letter last) }
+    {
+        self.at = text::put_line(self.out, self.at, number, word, letter, last);
+    }
+}
+
+fn put_name(page: &mut Page, kind: Kind)
+    ensures { Adds page.old page.new (bytes (name kind)) }
 {
     match kind {
-        Kind::Confirm => text::put_text(out, at, b"confirm"),
-        Kind::Pair => text::put_text(out, at, b"pair"),
-        Kind::Reserve => text::put_text(out, at, b"reserve"),
+        Kind::Confirm => page.text(b"confirm"),
+        Kind::Pair => page.text(b"pair"),
+        Kind::Reserve => page.text(b"reserve"),
     }
 }
 
 // The first line.
-fn put_heading(out: &mut [u8], at: usize, kind: Kind, samples: u32, n: u32, need: u32) -> usize
-    ensures { Writes out.old at (heading kind samples n need) result out.new }
+fn put_heading(page: &mut Page, kind: Kind, samples: u32, n: u32, need: u32)
+    ensures { Adds page.old page.new (heading kind samples n need) }
 {
-    let at = put_name(out, at, kind);
-    let at = text::put_byte(out, at, b' ');
-    let at = text::put_decimal(out, at, samples);
-    let at = text::put_byte(out, at, b' ');
-    let at = text::put_decimal(out, at, n);
-    let at = text::put_byte(out, at, b' ');
-    let at = text::put_decimal(out, at, need);
-    text::put_byte(out, at, b'\n')
+    put_name(page, kind);
+    page.byte(b' ');
+    page.decimal(samples);
+    page.byte(b' ');
+    page.decimal(n);
+    page.byte(b' ');
+    page.decimal(need);
+    page.byte(b'\n');
 }
 
 // The letter of a sample that was taken.
@@ -51,26 +85,16 @@ fn letter(kind: Kind, mark: u8) -> u8
 }
 
 // A line for each sample.
-fn put_lines(
-    out: &mut [u8],
-    at: usize,
-    kind: Kind,
-    words: &[u32],
-    marks: &[u8],
-    lasts: &[u32],
-) -> usize
+fn put_lines(page: &mut Page, kind: Kind, words: &[u32], marks: &[u8], lasts: &[u32])
     requires words_len_bound { length words.now ≤ 2048 }
     requires words_len { length words.now ≡ length marks.now }
     requires words_len_2 { length words.now ≡ length lasts.now }
-    ensures { Writes out.old at (joined (length words.now)
-        (line_at kind words.now marks.now lasts.now)) result out.new }
+    ensures { Adds page.old page.new (joined (length words.now)
+        (line_at kind words.now marks.now lasts.now)) }
 {
-    let mut to = at;
     for (i, word) in words.iter().enumerate() {
-        let mark = letter(kind, marks[i]);
-        to = text::put_line(out, to, i as u32, *word, mark, lasts[i]);
+        page.line(i as u32, *word, letter(kind, marks[i]), lasts[i]);
     }
-    to
 }
 
 // A whole listing at the start of the buffer.
@@ -89,17 +113,21 @@ pub(crate) fn put_listing(
     ensures { Writes out.old 0 (listing_of kind n need words.now marks.now lasts.now)
         result out.new }
 {
-    let at = put_heading(out, 0, kind, words.len() as u32, n, need);
-    put_lines(out, at, kind, words, marks, lasts)
+    let mut page = Page { out, at: 0 };
+    put_heading(&mut page, kind, words.len() as u32, n, need);
+    put_lines(&mut page, kind, words, marks, lasts);
+    page.at
 }
 
 // The one line of a refused recording.
 pub(crate) fn put_refused(out: &mut [u8], number: u32, sample: u32) -> usize
     ensures { Writes out.old 0 (refused_text number sample) result out.new }
 {
-    let at = text::put_text(out, 0, b"refused ");
-    let at = text::put_decimal(out, at, number);
-    let at = text::put_text(out, at, b" at ");
-    let at = text::put_decimal(out, at, sample);
-    text::put_byte(out, at, b'\n')
+    let mut page = Page { out, at: 0 };
+    page.text(b"refused ");
+    page.decimal(number);
+    page.text(b" at ");
+    page.decimal(sample);
+    page.byte(b'\n');
+    page.at
 }
