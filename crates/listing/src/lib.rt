@@ -51,9 +51,7 @@ impl Listing {
     pub const LONGEST: usize = 50111;
 }
 
-// By the number of units. One is confirmed; the last field is the count after the step. Two take the tuple vote, whose two counts
-// are the recording's N; the last field is the alarm mask. Four take the reserve vote; the last field is the pair that was voted on.
-// What a run tells of a second unit that still shows the word (T-09) is not listed.
+// By the number of units.
 fn list_units(run: Run, out: &mut [u8]) -> usize
     ensures { Writes out.old 0 (units_text run.entry.h
         run.entry.one.now run.entry.two.now run.entry.three.now run.entry.four.now) result out.new }
@@ -71,10 +69,12 @@ fn list_units(run: Run, out: &mut [u8]) -> usize
         which,
     } = run;
     match h.units {
+        // Confirmed: the last field is the count after the step.
         1 => {
             confirm::run(h.n, h.need, h.word, one, words, marks, lasts);
             sheet::put_listing(out, Kind::Confirm, h.n, h.need, words, marks, lasts)
         }
+        // The tuple vote, with N for both counts: the last field is the alarm mask. What T-09 tells is not listed.
         2 => {
             let votes = h.need;
             tuple::run(
@@ -82,6 +82,7 @@ fn list_units(run: Run, out: &mut [u8]) -> usize
             );
             sheet::put_listing(out, Kind::Pair, h.n, h.need, words, marks, lasts)
         }
+        // The reserve vote: the last field is the pair that was voted on. What T-09 tells is not listed.
         _ => {
             reserve::run(
                 h.n, h.need, h.word, one, two, three, four, words, marks, which,
@@ -92,8 +93,7 @@ fn list_units(run: Run, out: &mut [u8]) -> usize
     }
 }
 
-// The same over the reader's slices, which have a place for each sample of the longest trace. The times are not listed, so their
-// places are free.
+// The same over the reader's arrays. The times are not listed, so their places are free for what a run tells besides.
 fn list_slices(
     h: Header,
     times: &mut [u32; Limits::SAMPLES],

@@ -5,8 +5,7 @@ ghost use Rattle.listing.specs.Runnable.{Column, Runnable, Room, Spare};
 
 use recording::Header;
 
-// The header, the column of each unit, a word for each sample, and a place for each sample for what a run writes: a step's word, mark
-// and last field, and what is not listed.
+// The header, each unit's column, and places for what a run writes: its words, marks and last fields, and what is not listed.
 #[derive(Drop)]
 pub(crate) struct Run<'a> {
     pub(crate) h: Header,

@@ -1,5 +1,5 @@
-// The lines of a listing, put into a buffer one after the other. That there is room is known from the start, so a piece that had none
-// would be no part of any promise.
+// The lines of a listing, put into a buffer one after the other. That there is room is known from the start, so a piece
+// that had none would be no part of any promise.
 ghost use Rattle.std.specs.Prelude.{◌≡◌, ◌≤◌, [], ◌∷◌, length};
 ghost use Rattle.text.specs.Text.{bytes, decimal, line};
 ghost use Rattle.text.specs.Put.{Writes};
