@@ -5,7 +5,7 @@ ghost use Rattle.listing.specs.Runnable.{Column, Runnable, Room, Spare};
 
 use recording::Header;
 
-// The header, each unit's column, and places for what a run writes: its words, marks and last fields, and what is not listed.
+// The header, each unit's column, and places for what a run writes: words, marks, last fields, and what is not listed.
 #[derive(Drop)]
 pub(crate) struct Run<'a> {
     pub(crate) h: Header,
