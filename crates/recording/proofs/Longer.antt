@@ -11,7 +11,10 @@ use lib.Seq.{get_or-take, length-take-le}
 use borrow.Author.Tests.{eqb-true, eqb-false, ne_eqb, le-ltb}
 use Rattle.std.specs.Prelude.{if◌then◌else◌}
 use Rattle.rules.specs.Signals.{some_below}
+use Rattle.rules.specs.Refusal.{refusal_of}
 use Rattle.rules.specs.Table.{first}
+use Rattle.rules.proofs.Tables.{told_some}
+use Rattle.trace.specs.Answers.{at_once}
 use Rattle.recording.specs.Recording.{field, header_of, column_at, bad_offset, head_rows, shape_rows, refused_at, read_of}
 use Rattle.recording.proofs.Answers.{refused_early}
 use Rattle.recording.proofs.Columns.{bounded}
@@ -53,8 +56,8 @@ number lent s l = go (eqb (first (head_rows lent s)) 0) refl where
   go false e = sym (head_decides lent s refl (eqb-false _ _ e))
 
 -- so it is refused, at sample 0
-pub long_refused : (lent : Bool) (s : List ℕ) → 41004 < length s → refused_at (first (shape_rows lent s)) 0 ≡ read_of lent s
-long_refused lent s l = refused_early lent s refl some where
+pub long_refused : (lent : Bool) (s : List ℕ) → 41004 < length s → refused_at (at_once (refusal_of (first (shape_rows lent s)))) ≡ read_of lent s
+long_refused lent s l = refused_early lent s (told_some some) where
   some : first (shape_rows lent s) ≡ 0 → ⊥
   some e = go (eqb (first (head_rows lent s)) 0) refl (sym (number lent s l) ∙ e) where
     go : (b : Bool) → eqb (first (head_rows lent s)) 0 ≡ b → (if b then 12 else first (head_rows lent s)) ≡ 0 → ⊥
@@ -65,4 +68,4 @@ pub cut : (lent : Bool) (s : List ℕ) (c : ℕ) → 41004 < c → c ≤ length 
 cut lent s c m l =
     let long : 41004 < length (take c s) = rw (length-take-le c s l) m in
     let same : first (shape_rows lent (take c s)) ≡ first (shape_rows lent s) = number lent (take c s) long ∙ rw (same_head lent s c (omega arith) l) (sym (number lent s (omega arith))) in
-    sym (long_refused lent (take c s) long) ∙ ap (λ (r : ℕ). refused_at r 0) same ∙ long_refused lent s (omega arith)
+    sym (long_refused lent (take c s) long) ∙ ap (λ (r : ℕ). refused_at (at_once (refusal_of r))) same ∙ long_refused lent s (omega arith)

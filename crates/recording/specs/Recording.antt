@@ -1,11 +1,12 @@
 -- The recording: document 01, "The recording". Its bytes, field by field, and what the reader makes of them.
-use Rattle.std.specs.Prelude.{ℕ, ◌+◌, ◌*◌, ◌≤◌, ◌≡◌, List, [], ◌∷◌, ◌++◌, Bool, not, ◌&&◌, ◌||◌, ltb, length, get_or, drop, Option, Some, None, if◌then◌else◌}
+use Rattle.std.specs.Prelude.{ℕ, ◌+◌, ◌*◌, ◌≤◌, ◌≡◌, List, [], ◌∷◌, ◌++◌, Bool, not, ◌&&◌, ◌||◌, ltb, length, get_or, drop, Option, Some, None, if◌then◌else◌, Result, Ok, Err}
 use Rattle.rules.specs.Limits.{bad_count, bad_width, too_long, differ, outside}
 use Rattle.rules.specs.Signals.{as_list, some_below}
 use Rattle.rules.specs.Table.{Row, ◌when◌, first, answer}
-use Rattle.trace.specs.Answers.{not_run}
+use Rattle.trace.specs.Answers.{not_run, done}
 use Rattle.trace.specs.Samples.{first_where, somewhere}
-use Rattle.trace.specs.declared.RunAnswer.TheVariants.{Done, Refused}
+use Rattle.trace.specs.declared.Refused.{Refused}
+use Rattle.rules.specs.declared.refusal.Refusal.{Refusal}
 use Rattle.recording.specs.declared.Header.{Header}
 use Rattle.recording.specs.declared.RecordingRead.{RecordingRead}
 
@@ -101,14 +102,23 @@ rows_of lent s = shape_rows lent s ++ (6 when somewhere (outside_at s (header_of
 abbrev pub zeros : Header
 zeros = record { units = 0; samples = 0; n = 0; need = 0; word = 0 }
 
-abbrev pub refused_at : ℕ → ℕ → RecordingRead
-refused_at number sample = record { header = zeros; answer = Refused number sample }
+abbrev pub refused_at : Refused → RecordingRead
+refused_at refused = record { header = zeros; answer = Err refused }
+
+-- what a header, or what refuses it, is as the reader's answer
+abbrev pub read_as : Result Header Refused → RecordingRead
+read_as (Ok h) = record { header = h; answer = done }
+read_as (Err refused) = refused_at refused
+
+-- the header, where a table gives no number
+abbrev pub header_or : ℕ → List ℕ → Result Header Refusal
+header_or number s = answer number (λ refusal. Err refusal) (Ok (header_of s))
 
 unfoldable pub read_of : Bool → List ℕ → RecordingRead
 read_of lent s =
     record {
-      header = answer (first (rows_of lent s)) (λ number. zeros) (header_of s);
-      answer = answer (first (rows_of lent s)) (not_run (first_where (outside_at s (header_of s)) (numbers (header_of s)))) Done;
+      header = answer (first (rows_of lent s)) (λ refusal. zeros) (header_of s);
+      answer = answer (first (rows_of lent s)) (not_run (first_where (outside_at s (header_of s)) (numbers (header_of s)))) done;
     }
 
 -- how many places of a column's slice are filled: none if the unit is absent; none if refused, since the header is zeros then

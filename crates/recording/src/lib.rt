@@ -4,16 +4,17 @@
 mod samples;
 
 ghost use Rattle.std.specs.Prelude.{◌≡◌, ◌+◌, ◌≤◌, ◌<◌, length};
+ghost use Rattle.rules.specs.Refusal.{told};
 ghost use Rattle.rules.specs.Table.{first};
 ghost use Rattle.rules.specs.Signals.{some_below};
-ghost use Rattle.recording.specs.Recording.{field, header_of, column_at, offset_of, bad_tag, bad_units, bad_offset, head_rows, layout_rows, shape_rows, refused_at, read_of, Read};
+ghost use Rattle.recording.specs.Recording.{field, header_of, column_at, offset_of, bad_tag, bad_units, bad_offset, head_rows, layout_rows, shape_rows, header_or, read_as, read_of, Read};
 
-use rules::Limits;
+use rules::{Limits, Refusal};
 use samples::Recording;
-use trace::RunAnswer;
+use trace::{Refused, RunAnswer};
 
 // What a recording's header says.
-#[derive(Clone, Copy)]
+#[derive(Clone, Copy, Debug, Default, PartialEq, Eq)]
 pub struct Header {
     pub units: u32,
     pub samples: u32,
@@ -23,7 +24,7 @@ pub struct Header {
 }
 
 // The reader's answer, beside the header's values, which are zeros if it is refused.
-#[derive(Clone, Copy)]
+#[derive(Clone, Copy, Debug, PartialEq, Eq)]
 pub struct RecordingRead {
     pub header: Header,
     pub answer: RunAnswer,
@@ -64,21 +65,17 @@ fn bad_units(units: u32) -> bool
     !matches!(units, 1 | 2 | 4)
 }
 
-// 4, 12 or 3, or 0: what is known before an offset is looked at.
-fn head_refusal(bytes: &[u8], mislent: bool) -> u32
-    ensures { result ≡ first (head_rows mislent bytes.now) }
+// The header, or 4, 12 or 3: what is known before an offset is looked at.
+#[tactic(auto, unfolding(rules::specs::Table::first, rules::specs::Refusal::refusal_of))]
+fn head(bytes: &[u8], mislent: bool) -> Result<Header, Refusal>
+    ensures { result ≡ header_or (first (head_rows mislent bytes.now)) bytes.now }
 {
-    if mislent {
-        return 4;
-    }
-    let short = bytes.len() < 44;
-    if short {
-        return 12;
-    }
-    let h = read_header(bytes);
-    let bad = bad_tag(bytes) | bad_units(h.units);
-    let r = rules::or_else(0, 12, bad);
-    rules::or_else(r, 3, h.samples > Limits::SAMPLES as u32)
+    Refusal::Lengths.when(mislent)?;
+    Refusal::NotRecording.when(bytes.len() < 44)?;
+    let header = read_header(bytes);
+    Refusal::NotRecording.when(bad_tag(bytes) | bad_units(header.units))?;
+    Refusal::TooLong.when(header.samples > Limits::SAMPLES as u32)?;
+    Ok(header)
 }
 
 // Where column k begins: the times are column 0, and unit k is column k.
@@ -113,62 +110,41 @@ fn bad_offsets(bytes: &[u8], h: Header) -> bool
     (0..5).any(|k| bad_offset(bytes, h, k))
 }
 
-// 12, 1, 2 or 5, or 0: what is known before a sample is looked at.
-fn layout_refusal(bytes: &[u8], h: Header) -> u32
+// 12, 1, 2 or 5: what is known before a sample is looked at.
+#[tactic(auto, unfolding(rules::specs::Table::first, rules::specs::Refusal::refusal_of, rules::specs::Refusal::told))]
+fn layout_refusal(bytes: &[u8], h: Header) -> Result<(), Refusal>
     requires { (44 ≤ length bytes.now) × (h.samples ≤ 2048) × (h.units ≤ 4) }
-    ensures { result ≡ first (layout_rows bytes.now h) }
+    ensures { result ≡ told (first (layout_rows bytes.now h)) }
 {
     let ended = bytes.len() != column_at(h.samples, h.units + 1);
     let mislaid = bad_offsets(bytes, h) | ended;
-    let r = rules::or_else(0, 12, mislaid);
-    let r = rules::or_else(r, 1, rules::bad_count(h.need));
-    let r = rules::or_else(r, 2, rules::bad_width(h.n));
-    rules::or_else(r, 5, rules::outside(h.n, h.word))
+    Refusal::NotRecording.when(mislaid)?;
+    Refusal::Count.when(rules::bad_count(h.need))?;
+    Refusal::Width.when(rules::bad_width(h.n))?;
+    Refusal::Word.when(rules::outside(h.n, h.word))
 }
 
-// The table but for its last row: no sample has been read yet.
-fn shape_refusal(bytes: &[u8], mislent: bool) -> u32
-    ensures { result ≡ first (shape_rows mislent bytes.now) }
+// The header by the table but for its last row: no sample has been read yet.
+fn shape(bytes: &[u8], mislent: bool) -> Result<Header, Refusal>
+    ensures { result ≡ header_or (first (shape_rows mislent bytes.now)) bytes.now }
 {
-    let refusal = head_refusal(bytes, mislent);
-    if refusal != 0 {
-        return refusal;
-    }
-    layout_refusal(bytes, read_header(bytes))
+    let header = head(bytes, mislent)?;
+    layout_refusal(bytes, header)?;
+    Ok(header)
 }
 
-fn refused(number: u32, sample: u32) -> RecordingRead
-    ensures { result ≡ refused_at number sample }
+// The header by the whole table; no slice is touched.
+fn judged(bytes: &[u8], mislent: bool) -> Result<Header, Refused>
+    ensures { read_as result ≡ read_of mislent bytes.now }
 {
-    let header = Header {
-        units: 0,
-        samples: 0,
-        n: 0,
-        need: 0,
-        word: 0,
-    };
-    RecordingRead {
-        header,
-        answer: RunAnswer::Refused { number, sample },
-    }
-}
-
-// The whole table, and the header's values; no slice is touched.
-fn judged(bytes: &[u8], mislent: bool) -> RecordingRead
-    ensures { result ≡ read_of mislent bytes.now }
-{
-    let refusal = shape_refusal(bytes, mislent);
-    if refusal != 0 {
-        return refused(refusal, 0);
-    }
-    let header = read_header(bytes);
+    let header = shape(bytes, mislent)?;
     let recording = Recording { bytes, header };
-    if let Some(sample) = recording.first_outside() {
-        return refused(6, sample);
-    }
-    RecordingRead {
-        header,
-        answer: RunAnswer::Done,
+    match recording.first_outside() {
+        Some(sample) => Err(Refused {
+            refusal: Refusal::Sample,
+            sample,
+        }),
+        None => Ok(header),
     }
 }
 
@@ -186,19 +162,23 @@ pub fn read(
 {
     let lengths = [times.len(), one.len(), two.len(), three.len(), four.len()];
     let mislent = lengths != [Limits::SAMPLES; 5];
-    let judged = judged(bytes, mislent);
-    let answer = judged.answer;
-    let RunAnswer::Done = answer else {
-        return judged;
+    let header = match judged(bytes, mislent) {
+        Ok(header) => header,
+        Err(refused) => {
+            return RecordingRead {
+                header: Header::default(),
+                answer: Err(refused),
+            };
+        }
     };
-    let recording = Recording {
-        bytes,
-        header: judged.header,
-    };
+    let recording = Recording { bytes, header };
     recording.fill(0, times);
     recording.fill(1, one);
     recording.fill(2, two);
     recording.fill(3, three);
     recording.fill(4, four);
-    judged
+    RecordingRead {
+        header,
+        answer: Ok(()),
+    }
 }

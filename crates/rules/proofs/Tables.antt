@@ -1,5 +1,5 @@
 -- The law of tables, for any chain of refusals: a number is given exactly when its row says so and no row before it does.
-use mathlib.Core.Path.{◌≡◌, refl, sym, ◌∙◌}
+use mathlib.Core.Path.{◌≡◌, refl, sym, ap, ◌∙◌}
 use mathlib.Core.Logic.{◌↔◌, ◌⊎◌, inl, inr, ⊎_elim}
 use mathlib.Core.List.Memᴰ
 use mathlib.Core.List.{List, [], ◌∷◌, ◌++◌, Memᴰ}
@@ -9,6 +9,7 @@ use native.Mathlib.Omega.{arith}
 use lib.Dec.{ltb, leb, eqb}
 use borrow.Author.Tests.{ltb-true, lt-ltb, leb-true, eqb-true, eqb-false, ne_eqb}
 use Rattle.std.specs.Prelude.{if◌then◌else◌, Result, Ok, Err}
+use Rattle.std.specs.Result.{IsErrAnd}
 use Rattle.rules.specs.Choose.{choose◌then◌else◌}
 use Rattle.rules.specs.declared.refusal.Refusal.{Refusal}
 use Rattle.rules.specs.declared.refusal.Refusal.TheVariants.{Count, Width, TooLong, Lengths, Word, Sample, State, Times, TooMany, Reading, NotRecording}
@@ -92,6 +93,10 @@ told_err {k} {refusal} = go (eqb k 0) refl where
   go true q e = absurd (cc)
   go false q e = (eqb-false k 0 q, cc)
 
+pub told_some : {k : ℕ} → (k ≡ 0 → ⊥) → told k ≡ Err (refusal_of k)
+unfolding told
+told_some {k} h = rw (ne_eqb k 0 h)
+
 pub told_ok : {k : ℕ} {x : Unit {0}} → told k ≡ Ok x → k ≡ 0
 unfolding told
 told_ok {k} {x} = go (eqb k 0) refl where
@@ -106,6 +111,27 @@ module _ {A : Type 0} (refuse : Refusal → A) (work : A) where
 
   pub works : (k : ℕ) → k ≡ 0 → work ≡ answer k refuse work
   works k e = rw e
+
+-- a table's answer with something of its own beside, as code finds it by `?`
+pub or_err : {A : Type 0} (k : ℕ) (x : A) {refusal : Refusal} → ◌≡◌ {A = Result A Refusal} (answer k (λ r. Err r) (Ok x)) (Err refusal) → told k ≡ Err refusal
+unfolding told
+or_err k x {refusal} = go (eqb k 0) where
+  go :
+      (b : Bool) → ◌≡◌ {A = Result _ Refusal} (if b then Ok x else Err (refusal_of k)) (Err refusal)
+      → ◌≡◌ {A = Result (Unit {0}) Refusal} (if b then Ok tt else Err (refusal_of k)) (Err refusal)
+  go true e = absurd (cc)
+  go false e = cc
+
+pub or_ok : {A : Type 0} (k : ℕ) (x : A) {y : A} → ◌≡◌ {A = Result A Refusal} (answer k (λ r. Err r) (Ok x)) (Ok y) → (k ≡ 0) × (x ≡ y)
+or_ok k x {y} = go (eqb k 0) refl where
+  go : (b : Bool) → eqb k 0 ≡ b → ◌≡◌ {A = Result _ Refusal} (if b then Ok x else Err (refusal_of k)) (Ok y) → (k ≡ 0) × (x ≡ y)
+  go true q e = (eqb-true k 0 q, cc)
+  go false q e = absurd (cc)
+
+-- and what `?` hands out
+pub raised : {A E : Type 0} {r : Result A E} {e : E} → IsErrAnd r (λ x. x ≡ e) → r ≡ Err e
+raised {r = Ok x} h = absurd h
+raised {E = E} {r = Err x} h = ap (λ (y : E). Err y) h
 
 -- what holds of every refusal, and of the work where no number is given, holds of the answer
 pub either_answer :

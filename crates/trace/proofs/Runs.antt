@@ -8,8 +8,6 @@ use native.Mathlib.Omega.{arith}
 use lib.ListN.{length, take}
 use borrow.Author.Tests.{ne_eqb, ltb-true}
 use Rattle.std.specs.Prelude.{if◌then◌else◌, position, Option, Some, None, MatchOption, Ok, Err}
-use Rattle.std.specs.Result.{IsErrAnd}
-use Rattle.trace.specs.declared.Refused.{Refused}
 use Rattle.rules.specs.declared.refusal.Refusal.{Refusal}
 use Rattle.rules.specs.declared.refusal.Refusal.TheVariants.{Sample}
 use Rattle.rules.specs.Refusal.{number, refusal_of, is_refusal, told}
@@ -20,11 +18,6 @@ use Rattle.rules.proofs.Tables.{foreign, exactly_when, one_more, own, known_firs
 use Rattle.trace.specs.Samples.{first_where, somewhere, Smallest}
 use Rattle.trace.specs.Answers.{RunResult, done, run_number, run_sample, not_run, at_once, run_answer, sampled_of}
 use Rattle.trace.proofs.Samples.{smallest, position_is}
-
--- what `?` hands out, where the refusal is turned into a run's
-pub raised : {r : RunResult} {e : Refused} → IsErrAnd r (λ x. x ≡ e) → r ≡ Err e
-raised {r = Ok x} h = absurd h
-raised {r = Err x} h = ap (λ (y : Refused). Err y) h
 
 -- a sample's number fits
 abbrev pub Fits32 : Option ℕ → Type 0

@@ -4,8 +4,8 @@ use lib.ListN.{length}
 use borrow.Author.Tests.{ltb-false}
 use Rattle.rules.specs.Limits.{too_long, outside}
 use Rattle.rules.proofs.Readings.{run_0}
-use Rattle.rules.proofs.Tables.{told_ok}
-use Rattle.trace.proofs.Runs.{raised, few_found, refused_early, sampled}
+use Rattle.rules.proofs.Tables.{told_ok, raised}
+use Rattle.trace.proofs.Runs.{few_found, refused_early, sampled}
 use Rattle.trace.proofs.judge.Goals as goal
 
 pub returns-in_err-run_refusal : goal.returns-in_err-run_refusal

@@ -1,8 +1,8 @@
 -- `trace::judge_four` meets its contract: as `judge`, over the samples of both pairs.
 use mathlib.Core.Path.{sym, ◌∙◌}
-use Rattle.rules.proofs.Tables.{told_ok}
+use Rattle.rules.proofs.Tables.{told_ok, raised}
 use Rattle.trace.proofs.Pairs.{four_found, four_sampled}
-use Rattle.trace.proofs.Runs.{raised, refused_early}
+use Rattle.trace.proofs.Runs.{refused_early}
 use Rattle.trace.proofs.judge_four.Goals as goal
 
 pub returns-in_err-run_refusal : goal.returns-in_err-run_refusal
