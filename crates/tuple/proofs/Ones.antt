@@ -1,20 +1,19 @@
--- A one at place i asks for signal i: what it has in common with a word is that signal, at its place. The table has a one for each, and
--- a signal at its place goes in front of those below it.
+-- A one at place i asks for signal i: what it has in common with a word is that signal, at its place. A signal at its place goes in
+-- front of those below it.
 use mathlib.Core.Path.{◌≡◌, refl, sym, ◌∙◌}
 use mathlib.Core.Bool.{Bool, true, false}
-use mathlib.Core.List.{List}
-use Prim.Native.Nat.{ℕ, zero, suc, ◌+◌, ◌-◌, ◌*◌, ◌≤◌, ◌<◌, ◌^◌}
-use native.Mathlib.Nat.{add_comm, zero-mul}
+use Prim.Native.Nat.{ℕ, zero, suc, ◌+◌, ◌-◌, ◌*◌, ◌%◌, ◌≤◌, ◌<◌, ◌^◌}
+use native.Mathlib.Nat.{add_comm, mod-eq_of_lt, zero-mul}
 use native.Mathlib.Omega.{arith}
 use lib.Bits.{bit_and, bit_or, and_high, or_shifted_r}
 use lib.Dec.{ltb, lit<}
-use lib.ListN.{get_or}
-use lib.Pow.{pow-add}
+use lib.Pow.{pow-add, pow-lt}
+use mir.Val.{bool_byte}
 use borrow.Author.Tests.{ne_eqb}
 use Rattle.rules.specs.Bits.{bit}
 use Rattle.std.specs.Prelude.{if◌then◌else◌}
-use Rattle.rules.specs.Signals.{as_word, as_list}
-use Rattle.rules.proofs.Signals.{word_small, word_more, list_at}
+use Rattle.rules.specs.Signals.{as_word}
+use Rattle.rules.proofs.Signals.{word_small, word_more}
 use Rattle.tuple.specs.Disagreement.{count_by, alarm_by}
 use Rattle.tuple.proofs.Small.{either_small}
 
@@ -23,12 +22,13 @@ common i w =
     let e : 2 ^ (1 + i) - 2 ^ i ≡ 2 ^ i = omega (arith, pow-add 2 1 i) in
     rw e at (and_high w 1 i)
 
-pub one_of : {ones : List ℕ} → ones ≡ as_list 32 (λ k. 2 ^ k) → (i : ℕ) → i < 32 → get_or ones i 0 ≡ 2 ^ i
-one_of e i l = rw e (list_at (λ k. 2 ^ k) 32 i l)
+pub one_at : (i : ℕ) → i < 32 → 1 * 2 ^ i % 4294967296 ≡ 2 ^ i
+one_at i l = let e : 1 * 2 ^ i ≡ 2 ^ i = omega arith in rw e (mod-eq_of_lt (pow-lt l))
 
-pub one_placed : (t : Bool) (i : ℕ) {one v : ℕ} → one ≡ 2 ^ i → v ≡ (if t then one else 0) → v ≡ (if t then 1 else 0) * 2 ^ i
-one_placed true i o e = omega (arith, o, e)
-one_placed false i o e = omega (arith, e)
+-- a test, shifted to a place, is a one there or none
+pub one_placed : (t : Bool) (i : ℕ) → i < 32 → bool_byte t * 2 ^ i % 4294967296 ≡ (if t then 1 else 0) * 2 ^ i
+one_placed true i l = one_at i l ∙ omega arith
+one_placed false i l = rw (zero-mul (2 ^ i)) refl
 
 pub in_front : (f : ℕ → ℕ) → ((i : ℕ) → f i < 2) → (i : ℕ) → bit_or (as_word i f) (f i * 2 ^ i) ≡ as_word (i + 1) f
 in_front f small i = or_shifted_r (f i) i (as_word i f) (word_small f small i) ∙ add_comm (f i * 2 ^ i) (as_word i f) ∙ sym (word_more f i)

@@ -61,28 +61,6 @@ pub struct Voters {
     pub counts: [u32; 32],
 }
 
-// The same without the counts, which step in place.
-#[derive(Clone, Copy)]
-struct Voted {
-    pub word: u32,
-    pub mask: u32,
-    pub second: u32,
-}
-
-// The places that count, and those whose count is above the voters' N-1, as a word each.
-#[derive(Clone, Copy)]
-struct Places {
-    pub counting: u32,
-    pub over: u32,
-}
-
-// What is decided of a sample: the confirmation's state that is left, and the answer.
-#[derive(Clone, Copy)]
-struct Decided {
-    pub confirm: Confirm,
-    pub answer: TupleAnswer,
-}
-
 impl TupleAnswer {
     // The refusal's number, 0 for none.
     pub fn number(self) -> u32
@@ -144,21 +122,16 @@ fn confirmed_as(answer: ConfirmAnswer) -> TupleAnswer
 }
 
 // If any voter alarms, the mask with the previous output, and confirmation takes no step; otherwise the voted word takes one.
-fn decide(confirm: Confirm, voted: u32, mask: u32) -> Decided
-    ensures { Decides confirm voted mask result }
+fn decide(confirm: &mut Confirm, voted: u32, mask: u32) -> TupleAnswer
+    ensures { Decides confirm.old voted mask confirm.new result }
 {
     if mask != 0 {
         let word = confirm.output;
-        return Decided {
-            confirm,
-            answer: TupleAnswer::Alarm { word, mask },
-        };
+        return TupleAnswer::Alarm { word, mask };
     }
     let taken = confirm.clauses(voted);
-    let confirm = taken.state;
-    let confirmed = taken.answer;
-    let answer = confirmed_as(confirmed);
-    Decided { confirm, answer }
+    *confirm = taken.state;
+    confirmed_as(taken.answer)
 }
 
 // 1: either count is 0 or above 1,000.
@@ -212,16 +185,13 @@ impl Tuple {
     fn decided(self, v: Voters) -> TupleStep
         ensures { result ≡ decided self v }
     {
-        let taken = decide(self.confirm, v.word, v.mask);
-        let confirm = taken.confirm;
-        let answer = taken.answer;
         let counts = v.counts;
-        let state = Tuple {
-            votes: self.votes,
-            confirm,
+        let mut state = Tuple {
             agreed: v.word,
             counts,
+            ..self
         };
+        let answer = decide(&mut state.confirm, v.word, v.mask);
         TupleStep {
             state,
             answer,
@@ -243,11 +213,13 @@ impl Tuple {
     {
         let disagreeing = signals::disagreement(a, b);
         let mut counts = self.counts;
-        let voted = signals::step_voters(self.votes, self.agreed, &mut counts, a, disagreeing);
+        let mask = signals::step_voters(self.votes, &mut counts, disagreeing);
+        let word = signals::voted_word(a, self.agreed, disagreeing);
+        let second = signals::second_word(a, self.agreed, disagreeing);
         Voters {
-            word: voted.word,
-            mask: voted.mask,
-            second: voted.second,
+            word,
+            mask,
+            second,
             counts,
         }
     }
@@ -261,9 +233,10 @@ impl Tuple {
         let confirm = self.confirm;
         let counts = self.counts;
         let votes = self.votes;
-        let places = signals::places_of(votes, counts);
-        let stored = places.counting | (self.agreed | (confirm.input | confirm.output));
-        let votes_counted = !(rules::bad_count(votes) | (places.over != 0));
+        let counting = signals::places_above(0, &counts);
+        let over = signals::places_above(rules::last(votes), &counts);
+        let stored = counting | (self.agreed | (confirm.input | confirm.output));
+        let votes_counted = !(rules::bad_count(votes) | (over != 0));
         let counted = votes_counted & rules::counted(confirm.need, confirm.count);
         rules::admits(counted, confirm.n, (a | b) | stored)
     }
@@ -311,6 +284,7 @@ pub fn run(
     let RunAnswer::Done = answer else {
         return answer;
     };
-    steps::write_steps(n, votes, need, word, a, b, words, masks, marks, seconds);
+    let start = Tuple::fresh(n, votes, need, word);
+    steps::write_steps(start, a, b, words, masks, marks, seconds);
     RunAnswer::Done
 }

@@ -3,7 +3,7 @@ use borrow.Author.Tests.{eq-eqb, ne_eqb}
 use Rattle.tuple.proofs.decide.Goals as goal
 
 pub returns-then-mask-ne0 : goal.returns-then-mask-ne0
-returns-then-mask-ne0 c s second counts e = rw (e, ne_eqb _ _ c.if-mask-ne0.true)
+returns-then-mask-ne0 c s v e word mask = rw (e, word, mask, ne_eqb _ _ c.if-mask-ne0.true)
 
 pub returns : goal.returns
-returns c s second counts e = rw (e, c.confirmed_as-answer.ensures, c.clauses-taken.ensures, eq-eqb _ _ c.if-mask-ne0.false)
+returns c s v e word mask = rw (e, word, mask, c.confirmed_as.ensures, c.clauses-taken.ensures, eq-eqb _ _ c.if-mask-ne0.false)

@@ -1,5 +1,5 @@
 -- `tuple::run` meets its contract: a refused run leaves every slice, and the steps of an accepted one are written.
-use mathlib.Core.Path.{◌≡◌, sym, ap, ◌∙◌}
+use mathlib.Core.Path.{◌≡◌, refl, sym, ap, ◌∙◌}
 use mathlib.Core.List.{List}
 use mathlib.Core.Bool.{Bool}
 use Prim.Native.Nat.{ℕ}
@@ -27,11 +27,12 @@ returns-in_default c =
 pub write_steps-requires : goal.write_steps-requires
 write_steps-requires c =
     let x = c.args in
-    sym (answered x.n x.votes x.need x.word x.a.now x.b.now x.words.now x.masks.now x.marks.now x.seconds.now c.bad_counts.ensures c.in-Done.ensures)
+    let done = sym (answered x.n x.votes x.need x.word x.a.now x.b.now x.words.now x.masks.now x.marks.now x.seconds.now c.bad_counts.ensures c.in-Done.ensures) in
+    rw c.fresh-start.ensures (record { accepted = done; from_fresh = refl })
 
 pub returns : goal.returns
 returns c =
     let x = c.args in
-    let wrote = c.write_steps.ensures in
+    let wrote = rw c.fresh-start.ensures at c.write_steps.ensures in
     promised (answered x.n x.votes x.need x.word x.a.now x.b.now x.words.now x.masks.now x.marks.now x.seconds.now c.bad_counts.ensures c.in-Done.ensures)
     wrote.words_after wrote.masks_after wrote.marks_after wrote.seconds_after

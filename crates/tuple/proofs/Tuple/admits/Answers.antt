@@ -1,6 +1,6 @@
 -- `Tuple::admits` meets its contract: the one test, with the voters' count as one more for row 1 and the places as one
 -- more reason for row 7.
-use mathlib.Core.Path.{◌≡◌, refl, sym, ap₂, ◌∙◌}
+use mathlib.Core.Path.{◌≡◌, refl, sym, ap, ap₂, ◌∙◌}
 use mathlib.Core.Bool.{Bool, true, false, not, ◌&&◌, ◌||◌, or-true, or_assoc}
 use Prim.Native.Nat.{ℕ, ◌-◌}
 use lib.Bits.{bit_or}
@@ -55,8 +55,8 @@ returns c =
     let x = c.args in
     let s = x.self in
     let f = s.confirm in
-    let places = c.places_of-places.ensures in
+    let over = c.places_above-over.ensures ∙ ap (λ (limit : ℕ). as_word 32 (beyond limit s.counts)) c.last.ensures in
     c.admits.ensures
     ∙ ap₂ (λ (k : Bool) (w : ℕ). admits k f.n (bit_or (bit_or x.a x.b) (bit_or w (bit_or s.agreed (bit_or f.input f.output)))))
-    (ap₂ ◌&&◌ (ap₂ (λ (m : Bool) (w : ℕ). not (m || not (eqb w 0))) c.bad_count.ensures places.over_value) c.counted.ensures) places.counting_value
+    (ap₂ ◌&&◌ (ap₂ (λ (m : Bool) (w : ℕ). not (m || not (eqb w 0))) c.bad_count.ensures over) c.counted.ensures) c.places_above-counting.ensures
     ∙ tested s x.a x.b

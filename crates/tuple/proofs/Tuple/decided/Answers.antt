@@ -3,4 +3,4 @@ use mathlib.Core.Path.{refl, sym}
 use Rattle.tuple.proofs.Tuple.decided.Goals as goal
 
 pub returns : goal.returns
-returns c = let s = c.args in sym (c.decide-taken.ensures s.self s.v.second s.v.counts refl)
+returns c = sym (c.decide-answer.ensures c.args.self c.args.v refl refl refl)

@@ -1,33 +1,31 @@
 -- `tuple::signals::step_sample` meets its contract: none disagrees, and the counts are zero or set so, or each signal
 -- looks at its bit.
 use mathlib.Core.Path.{◌≡◌, ap, ◌∙◌}
-use mathlib.Core.List.{List}
-use Prim.Native.Nat.{ℕ}
-use lib.ListN.{replicate}
+use borrow.Author.Rules.{rules}
+use lib.ListN.{length, replicate}
+use lib.Pow.{pow_pos}
+use Rattle.rules.proofs.Width.{lt_inside}
+use Rattle.tuple.specs.declared.Voters.{Voters}
 use Rattle.tuple.specs.Disagreement.{voters_by}
-use Rattle.tuple.specs.Parts.{together}
 use Rattle.tuple.proofs.Agreeing.{agreeing}
 use Rattle.tuple.proofs.signals.step_sample.Goals as goal
 use Rattle.tuple.proofs.signals.step_sample.Goals.{Then-disagreeing-eq0}
 
--- no signal disagrees
+-- no signal disagrees: of the units' word, here 0, nothing is asked
 all_agree : (c : Then-disagreeing-eq0) → let s = c.args in
-    together (record { word = s.a; mask = 0; second = 0 }) (replicate 32 0) ≡ voters_by s.n s.need s.agreed s.counts.now s.a s.disagreeing
+    ◌≡◌ {A = Voters} (record { word = 0; mask = 0; second = 0; counts = replicate 32 0 }) (voters_by s.n s.need 0 s.counts.now 0 s.disagreeing)
 all_agree c =
     let p = c.requires in
     let s = c.args in
-    rw c.if-disagreeing-eq0.true (agreeing s.n s.need s.agreed s.counts.now s.a p.n_bound.0 p.n_bound.1 p.resting.above p.a_value.0)
+    let long : length s.counts.now ≡ 32 = search rules in
+    rw c.if-disagreeing-eq0.true (agreeing s.n s.need 0 s.counts.now 0 p.n_bound long p.resting.above (lt_inside s.n 0 (pow_pos s.n)))
+
+pub returns-then-waiting : goal.returns-then-waiting
+returns-then-waiting c =
+    let all = all_agree c.before.before in
+    record { value = ap (λ (v : Voters). v.mask) all; counts_after = ap (λ (v : Voters). v.counts) all }
 
 pub returns-else-waiting : goal.returns-else-waiting
 returns-else-waiting c =
-    ap (λ (counts : List ℕ). together (record { word = c.args.a; mask = 0; second = 0 }) counts) (c.requires.resting.rest c.if-waiting.false) ∙ all_agree c.before
-
-pub returns : goal.returns
-returns c =
-    let p = c.requires in
-    let word = c.voted_word-word.ensures c.args.n p.n_bound.0 p.a_value.0 p.a_value.1 in
-    let second = c.second_word-second.ensures c.args.n p.a_value.1 in
-    rw (word, second, c.step_counts-mask.ensures.value, c.step_counts-mask.ensures.counts_after)
-
-pub returns-then-waiting : goal.returns-then-waiting
-returns-then-waiting c = all_agree c.before.before
+    let all = all_agree c.before in
+    record { value = ap (λ (v : Voters). v.mask) all; counts_after = c.requires.resting.rest c.if-waiting.false ∙ ap (λ (v : Voters). v.counts) all }

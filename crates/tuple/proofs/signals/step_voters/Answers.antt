@@ -2,12 +2,10 @@
 use mathlib.Core.Path.{sym}
 use mathlib.Core.Bool.{false≢true}
 use native.Mathlib.Omega.{arith}
-use Rattle.rules.proofs.Width.{lt_inside}
 use Rattle.tuple.proofs.signals.step_voters.Goals as goal
 
 pub step_sample-requires : goal.step_sample-requires
 step_sample-requires c = record {
-  n_bound = (omega arith, c.requires, c.ones-ones.ensures);
-  a_value = (lt_inside 32 c.args.a (omega arith), lt_inside 32 c.args.disagreeing (omega arith));
+  n_bound = omega arith;
   resting = record { above = λ k l m. absurd (omega (arith, l, m)); rest = λ e. absurd (false≢true (sym e)) };
 }

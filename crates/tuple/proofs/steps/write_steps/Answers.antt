@@ -1,22 +1,24 @@
 -- `tuple::steps::write_steps` meets its contract. The invariant: each slice is written before i, and the samples from
 -- i on give the rest. The state is one that a step takes, and every count is zero where no signal disagreed at the
 -- sample before.
-use mathlib.Core.Path.{◌≡◌, refl, sym, ap, ◌∙◌}
+use mathlib.Core.Path.{◌≡◌, refl, sym, ap, subst, ◌∙◌}
 use mathlib.Core.List.{List}
 use mathlib.Core.Bool.{false}
 use Prim.Native.Nat.{ℕ, ◌<◌}
-use native.Mathlib.Omega.{arith}
+use borrow.Author.Rules.{rules}
 use borrow.Author.Tests.{eqb-true, not-false}
 use lib.ListN.{length, get_or}
 use Rattle.rules.specs.Limits.{outside}
+use Rattle.trace.specs.declared.RunAnswer.TheVariants.{Done}
 use Rattle.trace.proofs.FillPairs.{start_pair, turn_pair, filled_pair}
 use Rattle.tuple.specs.Disagreement.{disagreement, voters_by}
-use Rattle.tuple.specs.Run.{stepped, leaves, shown_word, shown_mask, shown_mark, shown_second}
+use Rattle.tuple.specs.Run.{stepped, leaves, shown_word, shown_mask, shown_mark, shown_second, answer_of}
 use Rattle.tuple.specs.declared.Tuple.{Tuple}
-use Rattle.tuple.specs.Tuple.{fresh, changed}
+use Rattle.tuple.specs.declared.Voters.{Voters}
+use Rattle.tuple.specs.Tuple.{width, vote_need, fresh, changed}
 use Rattle.tuple.proofs.Accepted.{Accepted, accept}
 use Rattle.tuple.proofs.Disagreement.{disagreement_inside, look}
-use Rattle.tuple.proofs.InParts.{wide, rests, taken}
+use Rattle.tuple.proofs.InParts.{together, wide, rests, taken}
 use Rattle.tuple.proofs.steps.write_steps.Goals as goal
 
 -- the signals that disagree at sample i, as the definition has them
@@ -27,37 +29,41 @@ found_so :
     → r ≡ disagreement n (get_or a i 0) (get_or b i 0)
 found_so {n} ok i here is = let inside = ok.inside i here in is n inside.0 inside.1
 
+-- a run that is accepted goes from the state that is handed over
+ok_from :
+    (start : Tuple) (a b words masks marks seconds : List ℕ)
+    → answer_of (width start) (vote_need start) start.confirm.need start.agreed a b words masks marks seconds ≡ Done
+    → start ≡ fresh (width start) (vote_need start) start.confirm.need start.agreed
+    → Accepted (width start) start a b words masks marks seconds
+ok_from start a b words masks marks seconds accepted e =
+    subst (λ (s : Tuple). Accepted (width start) s a b words masks marks seconds) (sym e) (accept _ _ _ _ a b words masks marks seconds accepted)
+
 pub loop-i-init : goal.loop-i-init
 loop-i-init c =
     let x = c.args in
-    let start = fresh x.n x.votes x.need x.word in
-    let ok = accept x.n x.votes x.need x.word x.a.now x.b.now x.words.now x.masks.now x.marks.now x.seconds.now c.requires in
-    rw c.fresh-start.ensures (record {
-      within = omega arith;
-      few = ok.few;
+    let ok = ok_from x.start x.a.now x.b.now x.words.now x.masks.now x.marks.now x.seconds.now c.requires.accepted c.requires.from_fresh in
+    record {
       second_long = ok.second_long;
-      counts_long = refl;
-      table = c.ones-ones.ensures;
+      counts_long = search rules;
       sound = ok.start_sound;
       votes = refl;
-      rest = λ e. refl;
-      in_words = start_pair stepped leaves shown_word start x.a.now x.b.now ok.second_long x.words.now ok.words_long;
-      in_masks = start_pair stepped leaves shown_mask start x.a.now x.b.now ok.second_long x.masks.now ok.masks_long;
-      in_marks = start_pair stepped leaves shown_mark start x.a.now x.b.now ok.second_long x.marks.now ok.marks_long;
-      in_seconds = start_pair stepped leaves shown_second start x.a.now x.b.now ok.second_long x.seconds.now ok.seconds_long;
-    })
+      rest = λ e. ap (λ (s : Tuple). s.counts) c.requires.from_fresh;
+      in_words = start_pair stepped leaves shown_word x.start x.a.now x.b.now ok.second_long x.words.now ok.words_long;
+      in_masks = start_pair stepped leaves shown_mask x.start x.a.now x.b.now ok.second_long x.masks.now ok.masks_long;
+      in_marks = start_pair stepped leaves shown_mark x.start x.a.now x.b.now ok.second_long x.marks.now ok.marks_long;
+      in_seconds = start_pair stepped leaves shown_second x.start x.a.now x.b.now ok.second_long x.seconds.now ok.seconds_long;
+    }
 
-pub step_sample-voted-requires : goal.step_sample-voted-requires
-step_sample-voted-requires c =
+pub step_sample-mask-requires : goal.step_sample-mask-requires
+step_sample-mask-requires c =
     let x = c.args in
     let l = c.loop-i in
     let inv = l.invariant in
-    let ok = accept x.n x.votes x.need x.word x.a.now x.b.now x.words.now x.masks.now x.marks.now x.seconds.now c.requires in
+    let ok = ok_from x.start x.a.now x.b.now x.words.now x.masks.now x.marks.now x.seconds.now c.requires.accepted c.requires.from_fresh in
     let more = c.loop-i-test.true in
-    let s = changed (fresh x.n x.votes x.need x.word) l.confirm l.agreed l.counts in
+    let s = changed x.start l.confirm l.agreed l.counts in
     record {
-      n_bound = (wide _ _ s inv.sound inv.votes, inv.counts_long, inv.table);
-      a_value = ((ok.inside l.i more).0, rw (found_so ok l.i more c.disagreement-disagreeing.ensures) (disagreement_inside _ _ _));
+      n_bound = wide _ _ s inv.sound inv.votes;
       resting = rests _ _ s inv.sound inv.votes _ (λ q. inv.rest (eqb-true _ _ (not-false _ q)));
     }
 
@@ -66,23 +72,25 @@ loop-i-preserved c =
     let x = c.args in
     let l = c.loop-i in
     let inv = l.invariant in
-    let ok = accept x.n x.votes x.need x.word x.a.now x.b.now x.words.now x.masks.now x.marks.now x.seconds.now c.requires in
+    let ok = ok_from x.start x.a.now x.b.now x.words.now x.masks.now x.marks.now x.seconds.now c.requires.accepted c.requires.from_fresh in
     let more = c.loop-i-test.true in
-    let decided = c.decide-taken in
+    let s = changed x.start l.confirm l.agreed l.counts in
     let found = found_so ok l.i more c.disagreement-disagreeing.ensures in
-    let looked = c.step_sample-voted.ensures ∙ ap (λ (d : ℕ). voters_by x.n x.votes l.agreed l.counts (get_or x.a.now l.i 0) d) found
-    ∙ look x.n x.votes l.agreed l.counts (get_or x.a.now l.i 0) (get_or x.b.now l.i 0) in
-    let t = taken _ _ (changed (fresh x.n x.votes x.need x.word) l.confirm l.agreed l.counts) inv.sound inv.votes inv.counts_long _ _
-    c.step_sample-voted.result _ looked decided.result decided.ensures in
+    let inside = (ok.inside l.i more).0 in
+    let among : outside (width x.start) c.disagreement-disagreeing.result ≡ false = rw found (disagreement_inside (width x.start) (get_or x.a.now l.i 0) (get_or x.b.now l.i 0)) in
+    let few = wide _ _ s inv.sound inv.votes in
+    let voters : Voters = record { word = c.voted_word-voted.result; mask = c.step_sample-mask.result; second = c.second_word-second.result; counts = c.step_sample-mask.new.counts } in
+    let looked = together (width x.start) (vote_need x.start) s.agreed s.counts (get_or x.a.now l.i 0) c.disagreement-disagreeing.result
+    (c.voted_word-voted.ensures (width x.start) few inside among) c.step_sample-mask.ensures.value (c.second_word-second.ensures (width x.start) among) c.step_sample-mask.ensures.counts_after
+    ∙ ap (λ (d : ℕ). voters_by (width x.start) (vote_need x.start) s.agreed s.counts (get_or x.a.now l.i 0) d) found
+    ∙ look (width x.start) (vote_need x.start) s.agreed s.counts (get_or x.a.now l.i 0) (get_or x.b.now l.i 0) in
+    let t = taken _ _ s inv.sound inv.votes inv.counts_long _ _ voters looked _ _ c.decide-answer.ensures in
     record {
-      within = omega arith;
-      few = inv.few;
       second_long = inv.second_long;
       counts_long = t.as_long;
-      table = inv.table;
       sound = t.sound_left;
       votes = t.votes_left;
-      rest = λ q. t.all_rest (ok.inside l.i more).0 (sym found ∙ q);
+      rest = λ q. t.all_rest inside (sym found ∙ q);
       in_words = turn_pair stepped leaves shown_word _ _ _ inv.second_long _ _ _ _ _ t.whole t.word_shown more inv.in_words;
       in_masks = turn_pair stepped leaves shown_mask _ _ _ inv.second_long _ _ _ _ _ t.whole t.mask_shown more inv.in_masks;
       in_marks = turn_pair stepped leaves shown_mark _ _ _ inv.second_long _ _ _ _ _ t.whole c.mark.ensures more inv.in_marks;
