@@ -11,12 +11,13 @@ use confirm::{Confirm, ConfirmMade, ConfirmStep};
 fn confirm_of(s: [u32; 5]) -> Confirm
     ensures { result ≡ confirm_of s }
 {
+    let [n, need, input, output, count] = s;
     Confirm {
-        n: s[0],
-        need: s[1],
-        input: s[2],
-        output: s[3],
-        count: s[4],
+        n,
+        need,
+        input,
+        output,
+        count,
     }
 }
 
@@ -47,7 +48,7 @@ fn put_step(state: &mut [u32; 5], answer: &mut [u32; 2], taken: ConfirmStep) -> 
         return number;
     }
     *state = confirm_numbers(taken.state);
-    *answer = [shown.word(), shown.mark() as u32];
+    *answer = [shown.word(), u32::from(shown.mark())];
     0
 }
 

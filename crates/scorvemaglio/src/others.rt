@@ -25,8 +25,8 @@ pub extern "C" fn scorve_sizing_of(
         return sized.refusal;
     }
     *sizing = [
-        sized.need as u64,
-        sized.votes as u64,
+        u64::from(sized.need),
+        u64::from(sized.votes),
         sized.age,
         sized.quiet,
     ];
@@ -60,11 +60,12 @@ pub extern "C" fn scorve_threshold_vote(
     ensures { Votes (threshold_of (readings_of readings.now)) agreed.old mark.old
         result agreed.new mark.new }
 {
+    let [x1, x2, x3, tolerance] = *readings;
     let r = Readings {
-        x1: readings[0],
-        x2: readings[1],
-        x3: readings[2],
-        tolerance: readings[3],
+        x1,
+        x2,
+        x3,
+        tolerance,
     };
     put_vote(agreed, mark, r.vote())
 }

@@ -12,13 +12,11 @@ use vote::Vote;
 fn phase_of(p: u32) -> Phase
     ensures { result ≡ phase_of p }
 {
-    if p == 0 {
-        return Phase::Primary;
+    match p {
+        0 => Phase::Primary,
+        1 => Phase::TakingOver,
+        _ => Phase::Reserve,
     }
-    if p == 1 {
-        return Phase::TakingOver;
-    }
-    Phase::Reserve
 }
 
 fn phase_number(p: Phase) -> u32
@@ -34,14 +32,16 @@ fn phase_number(p: Phase) -> u32
 fn reserve_of(s: [u32; 5]) -> Reserve
     ensures { result ≡ reserve_of s }
 {
-    let phase = phase_of(s[0]);
-    let vote = Vote {
-        n: s[1],
-        need: s[2],
-        word: s[3],
-        count: s[4],
-    };
-    Reserve { phase, vote }
+    let [phase, n, need, word, count] = s;
+    Reserve {
+        phase: phase_of(phase),
+        vote: Vote {
+            n,
+            need,
+            word,
+            count,
+        },
+    }
 }
 
 fn reserve_numbers(s: Reserve) -> [u32; 5]
@@ -79,8 +79,8 @@ fn put_step(state: &mut [u32; 5], answer: &mut [u32; 4], taken: ReserveStep)
     let vote = left.vote;
     let shown = taken.answer;
     *state = reserve_numbers(left);
-    let mark = shown.mark() as u32;
-    let which = shown.which() as u32;
+    let mark = u32::from(shown.mark());
+    let which = u32::from(shown.which());
     *answer = [vote.word, mark, taken.pair, which];
 }
 

@@ -15,33 +15,22 @@ const COUNTS_AT: usize = 7;
 
 const NUMBERS: usize = COUNTS_AT + 32;
 
-fn counts_of(s: [u32; NUMBERS]) -> [u32; 32]
-    ensures { result ≡ drop counts_at s }
-{
-    let mut counts = [0u32; 32];
-    let mut i = 0usize;
-    while i < 32 {
-        counts[i] = s[COUNTS_AT + i];
-        i += 1;
-    }
-    counts
-}
-
 fn tuple_of(s: [u32; NUMBERS]) -> Tuple
     ensures { result ≡ tuple_of s }
 {
-    let confirm = Confirm {
-        n: s[1],
-        need: s[2],
-        input: s[3],
-        output: s[4],
-        count: s[5],
-    };
-    let counts = counts_of(s);
+    let [votes, n, need, input, output, count, agreed, ..] = s;
+    let mut counts = [0; 32];
+    counts.copy_from_slice(&s[COUNTS_AT..]);
     Tuple {
-        votes: s[0],
-        confirm,
-        agreed: s[6],
+        votes,
+        confirm: Confirm {
+            n,
+            need,
+            input,
+            output,
+            count,
+        },
+        agreed,
         counts,
     }
 }
@@ -49,21 +38,12 @@ fn tuple_of(s: [u32; NUMBERS]) -> Tuple
 fn tuple_numbers(t: Tuple) -> [u32; NUMBERS]
     ensures { result ≡ tuple_numbers t }
 {
-    let confirm = t.confirm;
-    let counts = t.counts;
-    let mut s = [0u32; NUMBERS];
-    s[0] = t.votes;
-    s[1] = confirm.n;
-    s[2] = confirm.need;
-    s[3] = confirm.input;
-    s[4] = confirm.output;
-    s[5] = confirm.count;
-    s[6] = t.agreed;
-    let mut i = COUNTS_AT;
-    while i < NUMBERS {
-        s[i] = counts[i - COUNTS_AT];
-        i += 1;
-    }
+    let c = t.confirm;
+    let mut s = [0; NUMBERS];
+    s[..COUNTS_AT].copy_from_slice(&[
+        t.votes, c.n, c.need, c.input, c.output, c.count, t.agreed,
+    ]);
+    s[COUNTS_AT..].copy_from_slice(&t.counts);
     s
 }
 
@@ -89,7 +69,7 @@ fn put_step(state: &mut [u32; NUMBERS], answer: &mut [u32; 4], taken: TupleStep)
     }
     *state = tuple_numbers(taken.state);
     let word = shown.word();
-    let mark = shown.mark() as u32;
+    let mark = u32::from(shown.mark());
     let mask = shown.mask();
     *answer = [word, mark, mask, taken.second];
     0

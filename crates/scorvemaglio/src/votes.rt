@@ -11,11 +11,12 @@ use vote::{Vote, VoteMade, VoteStep};
 fn vote_of(s: [u32; 4]) -> Vote
     ensures { result ≡ vote_of s }
 {
+    let [n, need, word, count] = s;
     Vote {
-        n: s[0],
-        need: s[1],
-        word: s[2],
-        count: s[3],
+        n,
+        need,
+        word,
+        count,
     }
 }
 
@@ -47,8 +48,8 @@ fn put_step(state: &mut [u32; 4], answer: &mut [u32; 3], taken: VoteStep) -> u32
     }
     *state = vote_numbers(taken.state);
     let word = shown.word();
-    let mark = shown.mark() as u32;
-    let which = shown.which() as u32;
+    let mark = u32::from(shown.mark());
+    let which = u32::from(shown.which());
     *answer = [word, mark, which];
     0
 }

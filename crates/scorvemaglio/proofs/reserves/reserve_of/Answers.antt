@@ -2,4 +2,4 @@
 use Rattle.scorvemaglio.proofs.reserves.reserve_of.Goals as goal
 
 pub returns : goal.returns
-returns c = rw c.phase_of-phase.ensures
+returns c = rw c.phase_of.ensures

@@ -1,5 +1,13 @@
--- `tuple_of` meets its contract.
+-- `tuple_of` meets its contract: what is copied is all that stands behind the first numbers.
+use mathlib.Core.Path.{◌≡◌, ◌∙◌}
+use native.Mathlib.Omega.{arith}
+use borrow.Author.Rules.{rules}
+use lib.ListN.{length, drop}
+use Rattle.std.proofs.lemmas.List.{length-drop, take_all}
+use Rattle.scorvemaglio.specs.States.{counts_at, tuple_length}
 use Rattle.scorvemaglio.proofs.tuples.tuple_of.Goals as goal
 
 pub returns : goal.returns
-returns c = rw c.counts_of-counts.ensures
+returns c =
+    let long : length c.args.s ≡ tuple_length = search rules in
+    rw (c.copy_from_slice.ensures.after, take_all 32 (drop counts_at c.args.s) (omega (arith, length-drop counts_at c.args.s, long)))

@@ -4,7 +4,7 @@ use Rattle.scorvemaglio.proofs.votes.put_step.Goals as goal
 
 pub returns : goal.returns
 returns c =
-    rw (c.vote_numbers.ensures, c.word-word.ensures, c.mark-mark.ensures, c.which-which.ensures) (taken c.number-number.ensures c.if-number-ne0.false)
+    rw (c.vote_numbers.ensures, c.word-word.ensures, c.from-mark.ensures, c.mark.ensures, c.from-which.ensures, c.which.ensures) (taken c.number-number.ensures c.if-number-ne0.false)
 
 pub returns-then-number-ne0 : goal.returns-then-number-ne0
 returns-then-number-ne0 c = not_taken_lem c.number-number.ensures c.if-number-ne0.true
