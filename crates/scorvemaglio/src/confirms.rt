@@ -1,55 +1,68 @@
 // Confirmation, for C: its state is n, N, the previous input, the previous output and the count.
 ghost use Rattle.std.specs.Prelude.{◌≡◌};
 ghost use Rattle.rules.specs.Limits.{default_word};
+ghost use Rattle.confirm.specs.Answers.{number_of};
 ghost use Rattle.confirm.specs.Confirm.{made_of, step_of};
 ghost use Rattle.scorvemaglio.specs.Runs.{RunsConfirm};
 ghost use Rattle.scorvemaglio.specs.States.{confirm_of, confirm_numbers};
-ghost use Rattle.scorvemaglio.specs.Voters.{MakesConfirm, StepsConfirm};
+ghost use Rattle.scorvemaglio.specs.Voters.{MakesConfirm, StepsConfirm, confirm_shown};
 
+use crate::lent::{Made, State, Taken, put_made, put_step};
 use confirm::{Confirm, ConfirmMade, ConfirmStep};
 
-fn confirm_of(s: [u32; 5]) -> Confirm
-    ensures { result ≡ confirm_of s }
-{
-    let [n, need, input, output, count] = s;
-    Confirm {
-        n,
-        need,
-        input,
-        output,
-        count,
+impl State<5> for Confirm {
+    ghost of = { confirm_of };
+
+    ghost numbers = { confirm_numbers };
+
+    fn of(s: &[u32; 5]) -> Confirm {
+        let [n, need, input, output, count] = *s;
+        Confirm {
+            n,
+            need,
+            input,
+            output,
+            count,
+        }
+    }
+
+    fn numbers(self) -> [u32; 5] {
+        [self.n, self.need, self.input, self.output, self.count]
     }
 }
 
-fn confirm_numbers(s: Confirm) -> [u32; 5]
-    ensures { result ≡ confirm_numbers s }
-{
-    [s.n, s.need, s.input, s.output, s.count]
+impl Made<5> for ConfirmMade {
+    ghost refusal = { λ m. m.refusal };
+
+    ghost made = { λ m. confirm_numbers m.state };
+
+    fn refusal(self) -> u32 {
+        self.refusal
+    }
+
+    fn made(self) -> [u32; 5] {
+        self.state.numbers()
+    }
 }
 
-// Where a state was made, it is written.
-fn put_made(state: &mut [u32; 5], made: ConfirmMade) -> u32
-    ensures { MakesConfirm made state.old result state.new }
-{
-    if made.refusal != 0 {
-        return made.refusal;
-    }
-    *state = confirm_numbers(made.state);
-    0
-}
+impl Taken<5, 2> for ConfirmStep {
+    ghost refusal = { λ t. number_of t.answer };
 
-// Where a step was taken, the state that it leaves and what it shows are written.
-fn put_step(state: &mut [u32; 5], answer: &mut [u32; 2], taken: ConfirmStep) -> u32
-    ensures { StepsConfirm taken state.old answer.old result state.new answer.new }
-{
-    let shown = taken.answer;
-    let number = shown.number();
-    if number != 0 {
-        return number;
+    ghost left = { λ t. confirm_numbers t.state };
+
+    ghost shown = { confirm_shown };
+
+    fn refusal(self) -> u32 {
+        self.answer.number()
     }
-    *state = confirm_numbers(taken.state);
-    *answer = [shown.word(), u32::from(shown.mark())];
-    0
+
+    fn left(self) -> [u32; 5] {
+        self.state.numbers()
+    }
+
+    fn shown(self) -> [u32; 2] {
+        [self.answer.word(), u32::from(self.answer.mark())]
+    }
 }
 
 #[unsafe(no_mangle)]
@@ -80,7 +93,7 @@ pub extern "C" fn scorve_confirm_step(
     ensures { StepsConfirm (step_of (confirm_of state.old) input) state.old answer.old
         result state.new answer.new }
 {
-    let s = confirm_of(*state);
+    let s = Confirm::of(state);
     put_step(state, answer, s.step(input))
 }
 

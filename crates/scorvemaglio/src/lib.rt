@@ -3,6 +3,7 @@
 #![tactic(auto)]
 
 mod confirms;
+mod lent;
 mod others;
 mod reserves;
 mod tuples;

@@ -6,6 +6,7 @@ ghost use Rattle.scorvemaglio.specs.Runs.{RunsReserve};
 ghost use Rattle.scorvemaglio.specs.States.{phase_of, phase_number, reserve_of, reserve_numbers};
 ghost use Rattle.scorvemaglio.specs.Voters.{MakesReserve, StepsReserve, reserve_kept};
 
+use crate::lent::{Made, State, put_made};
 use reserve::{Phase, Reserve, ReserveMade, ReserveStep};
 use vote::Vote;
 
@@ -29,44 +30,48 @@ fn phase_number(p: Phase) -> u32
     }
 }
 
-fn reserve_of(s: [u32; 5]) -> Reserve
-    ensures { result ≡ reserve_of s }
-{
-    let [phase, n, need, word, count] = s;
-    Reserve {
-        phase: phase_of(phase),
-        vote: Vote {
-            n,
-            need,
-            word,
-            count,
-        },
+impl State<5> for Reserve {
+    ghost of = { reserve_of };
+
+    ghost numbers = { reserve_numbers };
+
+    fn of(s: &[u32; 5]) -> Reserve {
+        let [phase, n, need, word, count] = *s;
+        Reserve {
+            phase: phase_of(phase),
+            vote: Vote {
+                n,
+                need,
+                word,
+                count,
+            },
+        }
+    }
+
+    fn numbers(self) -> [u32; 5] {
+        let vote = self.vote;
+        [
+            phase_number(self.phase),
+            vote.n,
+            vote.need,
+            vote.word,
+            vote.count,
+        ]
     }
 }
 
-fn reserve_numbers(s: Reserve) -> [u32; 5]
-    ensures { result ≡ reserve_numbers s }
-{
-    let phase = s.phase;
-    let vote = s.vote;
-    [
-        phase_number(phase),
-        vote.n,
-        vote.need,
-        vote.word,
-        vote.count,
-    ]
-}
+impl Made<5> for ReserveMade {
+    ghost refusal = { λ m. m.refusal };
 
-// Where a state was made, it is written.
-fn put_made(state: &mut [u32; 5], made: ReserveMade) -> u32
-    ensures { MakesReserve made state.old result state.new }
-{
-    if made.refusal != 0 {
-        return made.refusal;
+    ghost made = { λ m. reserve_numbers m.state };
+
+    fn refusal(self) -> u32 {
+        self.refusal
     }
-    *state = reserve_numbers(made.state);
-    0
+
+    fn made(self) -> [u32; 5] {
+        self.state.numbers()
+    }
 }
 
 // The state that a step leaves and what it shows are written. The word shown is the one that its vote keeps: so it need not be
@@ -78,7 +83,7 @@ fn put_step(state: &mut [u32; 5], answer: &mut [u32; 4], taken: ReserveStep)
     let left = taken.state;
     let vote = left.vote;
     let shown = taken.answer;
-    *state = reserve_numbers(left);
+    *state = left.numbers();
     let mark = u32::from(shown.mark());
     let which = u32::from(shown.which());
     *answer = [vote.word, mark, taken.pair, which];
@@ -115,7 +120,7 @@ pub extern "C" fn scorve_reserve_step(
     ensures { StepsReserve (step_of (reserve_of state.old) a b c d) state.old answer.old
         result state.new answer.new }
 {
-    let s = reserve_of(*state);
+    let s = Reserve::of(state);
     let vote = s.vote;
     let sample = (a | b) | (c | d);
     let counted = rules::counted(vote.need, vote.count);

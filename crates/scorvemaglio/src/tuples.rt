@@ -1,12 +1,14 @@
 // The tuple vote, for C: its state is the voters' count, the confirmation's five numbers, the agreed signals and a count for each
 // place.
-ghost use Rattle.std.specs.Prelude.{◌≡◌, drop};
+ghost use Rattle.std.specs.Prelude.{◌≡◌};
 ghost use Rattle.rules.specs.Limits.{default_word};
+ghost use Rattle.tuple.specs.Answers.{number_of};
 ghost use Rattle.tuple.specs.Tuple.{made_of, step_of};
 ghost use Rattle.scorvemaglio.specs.Runs.{RunsTuple};
-ghost use Rattle.scorvemaglio.specs.States.{counts_at, tuple_of, tuple_numbers};
-ghost use Rattle.scorvemaglio.specs.Voters.{MakesTuple, StepsTuple};
+ghost use Rattle.scorvemaglio.specs.States.{tuple_of, tuple_numbers};
+ghost use Rattle.scorvemaglio.specs.Voters.{MakesTuple, StepsTuple, tuple_shown};
 
+use crate::lent::{Made, State, Taken, put_made, put_step};
 use confirm::Confirm;
 use tuple::{Tuple, TupleMade, TupleStep};
 
@@ -15,64 +17,81 @@ const COUNTS_AT: usize = 7;
 
 const NUMBERS: usize = COUNTS_AT + 32;
 
-fn tuple_of(s: [u32; NUMBERS]) -> Tuple
-    ensures { result ≡ tuple_of s }
-{
-    let [votes, n, need, input, output, count, agreed, ..] = s;
-    let mut counts = [0; 32];
-    counts.copy_from_slice(&s[COUNTS_AT..]);
-    Tuple {
-        votes,
-        confirm: Confirm {
-            n,
-            need,
-            input,
-            output,
-            count,
-        },
-        agreed,
-        counts,
+impl State<NUMBERS> for Tuple {
+    ghost of = { tuple_of };
+
+    ghost numbers = { tuple_numbers };
+
+    fn of(s: &[u32; NUMBERS]) -> Tuple {
+        let [votes, n, need, input, output, count, agreed, ..] = *s;
+        let mut counts = [0; 32];
+        counts.copy_from_slice(&s[COUNTS_AT..]);
+        Tuple {
+            votes,
+            confirm: Confirm {
+                n,
+                need,
+                input,
+                output,
+                count,
+            },
+            agreed,
+            counts,
+        }
+    }
+
+    fn numbers(self) -> [u32; NUMBERS] {
+        let c = self.confirm;
+        let mut s = [0; NUMBERS];
+        s[..COUNTS_AT].copy_from_slice(&[
+            self.votes,
+            c.n,
+            c.need,
+            c.input,
+            c.output,
+            c.count,
+            self.agreed,
+        ]);
+        s[COUNTS_AT..].copy_from_slice(&self.counts);
+        s
     }
 }
 
-fn tuple_numbers(t: Tuple) -> [u32; NUMBERS]
-    ensures { result ≡ tuple_numbers t }
-{
-    let c = t.confirm;
-    let mut s = [0; NUMBERS];
-    s[..COUNTS_AT].copy_from_slice(&[
-        t.votes, c.n, c.need, c.input, c.output, c.count, t.agreed,
-    ]);
-    s[COUNTS_AT..].copy_from_slice(&t.counts);
-    s
+impl Made<NUMBERS> for TupleMade {
+    ghost refusal = { λ m. m.refusal };
+
+    ghost made = { λ m. tuple_numbers m.state };
+
+    fn refusal(self) -> u32 {
+        self.refusal
+    }
+
+    fn made(self) -> [u32; NUMBERS] {
+        self.state.numbers()
+    }
 }
 
-// Where a state was made, it is written.
-fn put_made(state: &mut [u32; NUMBERS], made: TupleMade) -> u32
-    ensures { MakesTuple made state.old result state.new }
-{
-    if made.refusal != 0 {
-        return made.refusal;
-    }
-    *state = tuple_numbers(made.state);
-    0
-}
+impl Taken<NUMBERS, 4> for TupleStep {
+    ghost refusal = { λ t. number_of t.answer };
 
-// Where a step was taken, the state that it leaves and what it shows are written.
-fn put_step(state: &mut [u32; NUMBERS], answer: &mut [u32; 4], taken: TupleStep) -> u32
-    ensures { StepsTuple taken state.old answer.old result state.new answer.new }
-{
-    let shown = taken.answer;
-    let number = shown.number();
-    if number != 0 {
-        return number;
+    ghost left = { λ t. tuple_numbers t.state };
+
+    ghost shown = { tuple_shown };
+
+    fn refusal(self) -> u32 {
+        self.answer.number()
     }
-    *state = tuple_numbers(taken.state);
-    let word = shown.word();
-    let mark = u32::from(shown.mark());
-    let mask = shown.mask();
-    *answer = [word, mark, mask, taken.second];
-    0
+
+    fn left(self) -> [u32; NUMBERS] {
+        self.state.numbers()
+    }
+
+    fn shown(self) -> [u32; 4] {
+        let word = self.answer.word();
+        let mark = u32::from(self.answer.mark());
+        let mask = self.answer.mask();
+        [word, mark, mask, self.second]
+    }
 }
 
 #[unsafe(no_mangle)]
@@ -105,7 +124,7 @@ pub extern "C" fn scorve_tuple_step(
     ensures { StepsTuple (step_of (tuple_of state.old) a b) state.old answer.old
         result state.new answer.new }
 {
-    let s = tuple_of(*state);
+    let s = Tuple::of(state);
     put_step(state, answer, s.step(a, b))
 }
 

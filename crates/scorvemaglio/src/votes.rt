@@ -1,57 +1,70 @@
 // The vote of two words, for C: its state is n, N, the last agreed word and the count.
 ghost use Rattle.std.specs.Prelude.{◌≡◌, not, eqb};
 ghost use Rattle.rules.specs.Limits.{default_word};
+ghost use Rattle.vote.specs.Answers.{number_of};
 ghost use Rattle.vote.specs.Vote.{made_of, step_of};
 ghost use Rattle.scorvemaglio.specs.Runs.{RunsVote};
 ghost use Rattle.scorvemaglio.specs.States.{vote_of, vote_numbers};
-ghost use Rattle.scorvemaglio.specs.Voters.{MakesVote, StepsVote};
+ghost use Rattle.scorvemaglio.specs.Voters.{MakesVote, StepsVote, vote_shown};
 
+use crate::lent::{Made, State, Taken, put_made, put_step};
 use vote::{Vote, VoteMade, VoteStep};
 
-fn vote_of(s: [u32; 4]) -> Vote
-    ensures { result ≡ vote_of s }
-{
-    let [n, need, word, count] = s;
-    Vote {
-        n,
-        need,
-        word,
-        count,
+impl State<4> for Vote {
+    ghost of = { vote_of };
+
+    ghost numbers = { vote_numbers };
+
+    fn of(s: &[u32; 4]) -> Vote {
+        let [n, need, word, count] = *s;
+        Vote {
+            n,
+            need,
+            word,
+            count,
+        }
+    }
+
+    fn numbers(self) -> [u32; 4] {
+        [self.n, self.need, self.word, self.count]
     }
 }
 
-fn vote_numbers(s: Vote) -> [u32; 4]
-    ensures { result ≡ vote_numbers s }
-{
-    [s.n, s.need, s.word, s.count]
+impl Made<4> for VoteMade {
+    ghost refusal = { λ m. m.refusal };
+
+    ghost made = { λ m. vote_numbers m.state };
+
+    fn refusal(self) -> u32 {
+        self.refusal
+    }
+
+    fn made(self) -> [u32; 4] {
+        self.state.numbers()
+    }
 }
 
-// Where a state was made, it is written.
-fn put_made(state: &mut [u32; 4], made: VoteMade) -> u32
-    ensures { MakesVote made state.old result state.new }
-{
-    if made.refusal != 0 {
-        return made.refusal;
-    }
-    *state = vote_numbers(made.state);
-    0
-}
+impl Taken<4, 3> for VoteStep {
+    ghost refusal = { λ t. number_of t.answer };
 
-// Where a step was taken, the state that it leaves and what it shows are written.
-fn put_step(state: &mut [u32; 4], answer: &mut [u32; 3], taken: VoteStep) -> u32
-    ensures { StepsVote taken state.old answer.old result state.new answer.new }
-{
-    let shown = taken.answer;
-    let number = shown.number();
-    if number != 0 {
-        return number;
+    ghost left = { λ t. vote_numbers t.state };
+
+    ghost shown = { vote_shown };
+
+    fn refusal(self) -> u32 {
+        self.answer.number()
     }
-    *state = vote_numbers(taken.state);
-    let word = shown.word();
-    let mark = u32::from(shown.mark());
-    let which = u32::from(shown.which());
-    *answer = [word, mark, which];
-    0
+
+    fn left(self) -> [u32; 4] {
+        self.state.numbers()
+    }
+
+    fn shown(self) -> [u32; 3] {
+        let word = self.answer.word();
+        let mark = u32::from(self.answer.mark());
+        let which = u32::from(self.answer.which());
+        [word, mark, which]
+    }
 }
 
 #[unsafe(no_mangle)]
@@ -79,7 +92,7 @@ pub extern "C" fn scorve_vote_step(
     ensures { StepsVote (step_of (vote_of state.old) a b (not (eqb reset 0))) state.old answer.old
         result state.new answer.new }
 {
-    let s = vote_of(*state);
+    let s = Vote::of(state);
     put_step(state, answer, s.step(a, b, reset != 0))
 }
 

@@ -25,14 +25,14 @@ found place a b x d {s} one counting read =
 pub returns-then-refused : goal.returns-then-refused
 returns-then-refused c =
     let x = c.args in
-    let one = found x.state.now x.a x.b x.c x.d c.admits-admitted.ensures c.counted-counted.ensures c.reserve_of-s.ensures in
+    let one = found x.state.now x.a x.b x.c x.d c.admits-admitted.ensures c.counted-counted.ensures c.of-s.ensures in
     let r = refused_as x.state.now x.a x.b x.c x.d (rw (← one) c.if-refused.true) in
-    rw (c.step_number.ensures, c.bad_count.ensures, c.reserve_of-s.ensures) (not_taken_lem r.0 r.1)
+    rw (c.step_number.ensures, c.bad_count.ensures, c.of-s.ensures) (not_taken_lem r.0 r.1)
 
 pub returns : goal.returns
 returns c =
     let x = c.args in
-    let one = found x.state.now x.a x.b x.c x.d c.admits-admitted.ensures c.counted-counted.ensures c.reserve_of-s.ensures in
+    let one = found x.state.now x.a x.b x.c x.d c.admits-admitted.ensures c.counted-counted.ensures c.of-s.ensures in
     let t = taken_as x.state.now x.a x.b x.c x.d (rw (← one) c.if-refused.false) in
     let kept = kept_as_shown x.state.now x.a x.b x.c x.d in
-    rw (c.put_step.ensures.state_after, c.put_step.ensures.answer_after, c.clauses.ensures, c.reserve_of-s.ensures, kept, t.1) (taken refl t.0)
+    rw (c.put_step.ensures.state_after, c.put_step.ensures.answer_after, c.clauses.ensures, c.of-s.ensures, kept, t.1) (taken refl t.0)

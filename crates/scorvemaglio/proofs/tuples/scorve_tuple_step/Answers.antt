@@ -2,4 +2,4 @@
 use Rattle.scorvemaglio.proofs.tuples.scorve_tuple_step.Goals as goal
 
 pub returns : goal.returns
-returns c = rw (← c.tuple_of-s.ensures, ← c.step.ensures.value) c.put_step.ensures
+returns c = rw (← c.of-s.ensures, ← c.step.ensures.value) c.put_step.ensures
