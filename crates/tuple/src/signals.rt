@@ -101,7 +101,7 @@ pub(crate) fn step_voters(need: u32, counts: &mut [u32; 32], disagreeing: u32) -
     step_sample(PLACES, need, true, counts, disagreeing)
 }
 
-// The places whose count is above a limit.
+// The places whose count is above a limit. Laid into its caller, lest a step copies its counts to lend them.
 #[inline]
 pub(crate) fn places_above(limit: u32, counts: &[u32; 32]) -> u32
     ensures { result ≡ as_word 32 (λ i. if ltb limit (get_or counts.now i 0) then 1 else 0) }
