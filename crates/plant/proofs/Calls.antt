@@ -11,7 +11,7 @@ use Rattle.rules.specs.Limits.{bad_count, bad_width, outside}
 use Rattle.rules.proofs.Readings.{Makes}
 use Rattle.rules.proofs.Width.{lt_inside}
 use Rattle.trace.specs.Samples.{somewhere}
-use Rattle.trace.specs.declared.RunAnswer.TheVariants.{Done}
+use Rattle.trace.specs.Answers.{done}
 use Rattle.trace.proofs.Runs.{done_when}
 use Rattle.trace.proofs.Samples.{nowhere_if}
 use Rattle.confirm.specs.Confirm.{made_of}
@@ -23,13 +23,13 @@ use Rattle.plant.specs.Calls.{Means, RunOn}
 use Rattle.plant.proofs.Samples.{samples_inside}
 use Rattle.plant.proofs.Shown.{truly_shown}
 
--- `confirm::run`: where it answers Done, the words that it has written into the lent slice
+-- `confirm::run`: where it is done, the words that it has written into the lent slice
 pub run_shown :
     (κs : Lfts 4) (w : Watch) → Observed w
     → Means (run.Learnt κs)
-    (λ a z e. RunOn w a.0 a.1.0 a.1.1.0 a.1.1.1.0.now → z ≡ Done → TrulyShown w e.1.1.1.1.0.now)
-run_shown κs w o a z e p on done =
-    let written : e.1.1.1.1.0.now ≡ outputs w = p.words_after ∙ simp (done, on.same_width, on.same_need, on.same_word, on.same_samples) in
+    (λ a z e. RunOn w a.0 a.1.0 a.1.1.0 a.1.1.1.0.now → z ≡ done → TrulyShown w e.1.1.1.1.0.now)
+run_shown κs w o a z e p on ran =
+    let written : e.1.1.1.1.0.now ≡ outputs w = p.words_after ∙ simp (ran, on.same_width, on.same_need, on.same_word, on.same_samples) in
     rw written (truly_shown w o)
 
 -- where n and N are not refused; the initial word is one that the plant showed
@@ -52,10 +52,10 @@ module _ (w : Watch) (o : Observed w) (counted : bad_count w.need ≡ false) (wi
   none_outside : somewhere (outside w.n) w.samples ≡ false
   none_outside = nowhere_if (outside w.n) w.samples 0 (samples_inside w o.formed)
 
-  -- and a run over at most 2,048 of them, with slices of that length, does answer Done
+  -- and a run over at most 2,048 of them, with slices of that length, is done
   pub run_done :
       (words marks counts : List ℕ) → length w.samples ≤ 2048 → unequal w.samples words marks counts ≡ false
-      → answer_of w.n w.need w.initial w.samples words marks counts ≡ Done
+      → answer_of w.n w.need w.initial w.samples words marks counts ≡ done
   run_done words marks counts short same =
       done_when _ _ _ _ _ outside w.samples (record {
         counted = none_refused.counted;

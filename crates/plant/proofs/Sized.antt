@@ -2,6 +2,7 @@
 use mathlib.Core.Path.{◌≡◌, sym, ap, ◌∙◌}
 use Prim.Native.Nat.{ℕ}
 use lib.ListN.{get_or}
+use Rattle.std.specs.Prelude.{None}
 use Rattle.sizing.specs.declared.Sizing.{Sizing}
 use Rattle.sizing.specs.Sizing.{count_of, sized, sizing_of}
 use Rattle.sizing.proofs.Taken.{its_numbers, serves}
@@ -13,8 +14,8 @@ use Rattle.plant.proofs.Premises.{put_back}
 use Rattle.plant.proofs.Shown.{truly_shown}
 
 -- what the definition gives is what the watch needs
-module _ (w : Watch) (z : Sizing) (given : z ≡ sizing_of w.n w.tm w.tM w.d) (taken : z.refusal ≡ 0) (its_count : z.need ≡ w.need) where
-  not_refused : (sizing_of w.n w.tm w.tM w.d).refusal ≡ 0
+module _ (w : Watch) (z : Sizing) (given : z ≡ sizing_of w.n w.tm w.tM w.d) (taken : z.refusal ≡ None) (its_count : z.need ≡ w.need) where
+  not_refused : (sizing_of w.n w.tm w.tM w.d).refusal ≡ None
   not_refused = rw (← given) taken
 
   is : z ≡ sized w.n w.tm w.tM w.d

@@ -1,6 +1,6 @@
 -- The start. What `rests` asks of the plant where the state was made by `Confirm::new` (T-04); and that the plant must have shown the
 -- initial word, whatever that is, since it is the first word that is shown.
-use mathlib.Core.Path.{◌≡◌, refl, ◌∙◌}
+use mathlib.Core.Path.{◌≡◌, refl, ap, ◌∙◌}
 use mathlib.Core.Logic.Dec
 use mathlib.Core.Logic.{◌↔◌}
 use mathlib.Core.List.{[], ◌∷◌, map}
@@ -10,7 +10,9 @@ use native.Mathlib.Decide.{ℕ_discrete, dec_le, dec_lt}
 use lib.ListN.{get_or}
 use lib.Dec.{ltb, eqb}
 use borrow.Author.Tests.{eqb-true, not-false}
+use Rattle.std.specs.Prelude.{None}
 use Rattle.rules.specs.Limits.{bad_count, bad_width, default_word}
+use Rattle.rules.specs.Refusal.{number_in}
 use Rattle.rules.specs.Signals.{as_word}
 use Rattle.rules.specs.Table.{Given}
 use Rattle.rules.specs.Refusals.{new_rows}
@@ -58,8 +60,11 @@ new_shown w others ones a z e p on = rw is (steps_shown (from_default w) observe
   is : z ≡ made_of w.n w.need (default_word w.n)
   is = p ∙ simp (on.same_width, on.same_need)
 
+  made : (made_of w.n w.need (default_word w.n)).refusal ≡ None
+  made = rw (← is) on.not_refused
+
   good : Given 0 (new_rows (bad_count w.need) w.n)
-  good = (new_exactly w.n w.need 0).0 (rw (← is) on.not_refused)
+  good = (new_exactly w.n w.need 0).0 (ap number_in made)
 
   observed : Observed (from_default w)
   observed = put_back Premise.rests (from_default w) (others_same w others) ((rests_at_ones w good.1.0).1 ones)

@@ -1,8 +1,9 @@
 -- The calls that demand 3 speaks of, made on what a watch has.
-use Rattle.std.specs.Prelude.{ℕ, ◌≤◌, ◌≡◌, List}
+use Rattle.std.specs.Prelude.{ℕ, ◌≤◌, ◌≡◌, List, None}
+use Rattle.rules.specs.declared.answers.Made.{Made}
 use Rattle.rules.specs.Bits.{AllOnes}
 use Rattle.rules.specs.Limits.{default_word}
-use Rattle.confirm.specs.declared.ConfirmMade.{ConfirmMade}
+use Rattle.confirm.specs.declared.Confirm.{Confirm}
 use Rattle.sizing.specs.declared.Sizing.{Sizing}
 use Rattle.plant.specs.Plant.{Watch, gap_of, age_of, Enough}
 
@@ -18,10 +19,10 @@ pub record RunOn (w : Watch) (n need word : ℕ) (samples : List ℕ) : Type 0 w
   pub same_samples : samples ≡ w.samples
 
 -- `Confirm::new` of the watch's n and N, not refused
-pub record NewOn (w : Watch) (n need : ℕ) (z : ConfirmMade) : Type 0 where
+pub record NewOn (w : Watch) (n need : ℕ) (z : Made Confirm) : Type 0 where
   pub same_width : n ≡ w.n
   pub same_need : need ≡ w.need
-  pub not_refused : z.refusal ≡ 0
+  pub not_refused : z.refusal ≡ None
 
 -- its initial word is the default word: the same watch with that one
 abbrev pub from_default : Watch → Watch
@@ -49,7 +50,7 @@ pub record SizedBy (w : Watch) (n tm tM d : ℕ) (z : Sizing) : Type 0 where
   pub same_least : tm ≡ w.tm
   pub same_greatest : tM ≡ w.tM
   pub same_delay : d ≡ w.d
-  pub not_refused : z.refusal ≡ 0
+  pub not_refused : z.refusal ≡ None
   pub its_count : z.need ≡ w.need
 
 -- what its numbers are: N·Tm > D, and the bounds of demand 3 are the ones returned
