@@ -1,5 +1,6 @@
 // What an answer prints: numbers, one after the other on a line, and slices in runs of equal places.
 use crate::place::Place;
+use rules::Refusal;
 
 const OUT: i32 = 1;
 
@@ -10,6 +11,11 @@ pub fn first(n: impl Into<u64>) {
 pub fn next(n: impl Into<u64>) {
     io::write_all(OUT, b" ");
     first(n);
+}
+
+// The refusal's number, 0 for none.
+pub fn refusal(refusal: Option<Refusal>) {
+    first(refusal.map_or(0, u32::from));
 }
 
 pub fn numbers(all: &[u32]) {

@@ -3,8 +3,8 @@ use crate::output;
 use trace::RunAnswer;
 
 pub fn print_answer(answer: RunAnswer) {
-    output::first(answer.number());
-    output::next(answer.sample());
+    output::first(trace::number(answer));
+    output::next(trace::sample(answer));
 }
 
 pub fn print_voted(answer: RunAnswer, words: &[u32], marks: &[u8], which: &[u8]) {

@@ -1,7 +1,16 @@
-// The states that more than one room's calls have, and the answers of a vote of two words.
+// What constructors answer, the states that more than one room's calls have, and the answers of a vote of two words.
 use crate::{input, output};
 use confirm::Confirm;
+use rules::Made;
 use vote::{Vote, VoteAnswer};
+
+// What every constructor answers.
+pub fn print_made<S, F: Fn(S)>(made: Made<S>, print_state: F)
+    requires { F.IsAlwaysCallable print_state }
+{
+    output::refusal(made.refusal);
+    print_state(made.state);
+}
 
 // STATE of confirmation: n, N, previous input, previous output, count.
 pub fn read_confirm() -> Confirm {
