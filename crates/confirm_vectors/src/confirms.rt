@@ -1,12 +1,7 @@
 // The calls of confirmation.
-use confirm::{Confirm, ConfirmAnswer, ConfirmMade};
+use confirm::{Confirm, ConfirmAnswer};
 use lines::place::PLACES;
 use lines::{input, output, runs, states};
-
-fn print_made(made: ConfirmMade) {
-    output::first(made.refusal);
-    states::print_confirm(made.state);
-}
 
 fn print_answer(answer: ConfirmAnswer) {
     output::first(answer.number());
@@ -23,12 +18,13 @@ fn step() {
 
 fn new() {
     let [n, need] = input::numbers::<2>();
-    print_made(Confirm::new(n, need));
+    states::print_made(Confirm::new(n, need), states::print_confirm);
 }
 
 fn from_word() {
     let [n, need, word] = input::numbers::<3>();
-    print_made(Confirm::from_word(n, need, word));
+    let made = Confirm::from_word(n, need, word);
+    states::print_made(made, states::print_confirm);
 }
 
 fn run() {

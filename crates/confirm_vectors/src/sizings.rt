@@ -5,7 +5,7 @@ use sizing::Sizing;
 fn size() {
     let [n, least, greatest, delay] = input::numbers::<4>();
     let sized = Sizing::of(n, least, greatest, delay);
-    output::first(sized.refusal);
+    output::refusal(sized.refusal);
     output::next(sized.need);
     output::next(sized.votes);
     output::next(sized.age);
