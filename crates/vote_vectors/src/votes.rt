@@ -1,12 +1,7 @@
 // The calls of the vote of two words.
 use lines::place::PLACES;
 use lines::{input, output, runs, states};
-use vote::{Vote, VoteMade};
-
-fn print_made(made: VoteMade) {
-    output::first(made.refusal);
-    states::print_vote(made.state);
-}
+use vote::Vote;
 
 fn step() {
     let s = states::read_vote();
@@ -19,12 +14,12 @@ fn step() {
 
 fn new() {
     let [n, need] = input::numbers::<2>();
-    print_made(Vote::new(n, need));
+    states::print_made(Vote::new(n, need), states::print_vote);
 }
 
 fn from_word() {
     let [n, need, word] = input::numbers::<3>();
-    print_made(Vote::from_word(n, need, word));
+    states::print_made(Vote::from_word(n, need, word), states::print_vote);
 }
 
 fn run() {
