@@ -1,7 +1,7 @@
 // The calls of the reserve vote.
 use lines::place::PLACES;
 use lines::{input, output, runs, states};
-use reserve::{Phase, Reserve, ReserveMade};
+use reserve::{Phase, Reserve};
 
 // A number that is no phase's is the last one's.
 fn phase(number: u32) -> Phase {
@@ -25,11 +25,6 @@ fn print_state(s: Reserve) {
     states::print_vote(s.vote);
 }
 
-fn print_made(made: ReserveMade) {
-    output::first(made.refusal);
-    print_state(made.state);
-}
-
 fn step() {
     let s = read_state();
     let [a, b, c, d] = input::numbers::<4>();
@@ -42,12 +37,12 @@ fn step() {
 
 fn new() {
     let [n, need] = input::numbers::<2>();
-    print_made(Reserve::new(n, need));
+    states::print_made(Reserve::new(n, need), print_state);
 }
 
 fn from_word() {
     let [n, need, word] = input::numbers::<3>();
-    print_made(Reserve::from_word(n, need, word));
+    states::print_made(Reserve::from_word(n, need, word), print_state);
 }
 
 fn run() {
