@@ -13,7 +13,7 @@ use Rattle.rules.proofs.Readings.{Runs, run_makes}
 use Rattle.rules.proofs.Tables.{or_neither, or_each}
 use Rattle.trace.specs.Answers.{long_pair, apart_pair}
 use Rattle.trace.specs.Samples.{somewhere, outside_pair}
-use Rattle.trace.specs.declared.RunAnswer.TheVariants.{Done}
+use Rattle.trace.specs.Answers.{done}
 use Rattle.trace.proofs.Columns.{zip_length, zip_at}
 use Rattle.trace.proofs.Runs.{answer_done}
 use Rattle.trace.proofs.Samples.{nowhere}
@@ -32,7 +32,7 @@ pub record Accepted (n : ℕ) (start : Tuple) (a b words masks marks seconds : L
   pub start_sound : Sound n start
   pub inside : (i : ℕ) → i < length a → (outside n (get_or a i 0) ≡ false) × (outside n (get_or b i 0) ≡ false)
 
-module _ (n votes need word : ℕ) (a b words masks marks seconds : List ℕ) (accepted : answer_of n votes need word a b words masks marks seconds ≡ Done) where
+module _ (n votes need word : ℕ) (a b words masks marks seconds : List ℕ) (accepted : answer_of n votes need word a b words masks marks seconds ≡ done) where
   pub fine : Runs (bad_counts votes need) n word (long_pair a b) (apart_pair a b (unequal a words masks marks seconds)) (somewhere (outside_pair n) (zip a b))
   fine = answer_done _ _ _ _ _ outside_pair (zip a b) accepted
 

@@ -4,12 +4,14 @@ use mathlib.Core.Path.{◌≡◌, refl, sym, ap, ◌∙◌}
 use mathlib.Core.List.{List, [], ◌∷◌, ◌++◌}
 use mathlib.Core.Bool.{false, ◌||◌, false≢true}
 use Prim.Native.Nat.{ℕ}
+use Rattle.std.specs.Prelude.{None}
 use Rattle.rules.specs.Limits.{outside}
+use Rattle.rules.specs.Refusal.{number_in}
 use Rattle.rules.specs.Table.{Row, ◌when◌, first, answer, numbered, or_else}
 use Rattle.rules.proofs.Readings.{accepted}
 use Rattle.rules.proofs.Tables.{one_more, stays}
 use Rattle.tuple.specs.declared.Tuple.{Tuple}
-use Rattle.tuple.specs.declared.TupleMade.{TupleMade}
+use Rattle.rules.specs.declared.answers.Made.{Made}
 use Rattle.tuple.specs.Answers.{number_of}
 use Rattle.tuple.specs.Tuple.{width, bad_counts, fresh, voters_of, clauses, made, not_made, made_of, rows_of, not_taken, step_of}
 use Rattle.tuple.proofs.Exactly.{none_refused, step_exactly, step_number}
@@ -35,10 +37,10 @@ module _ (s : Tuple) (a b : ℕ) where
   no_row_missing k = ap (λ (number : ℕ). answer number (not_taken s) (clauses s a b)) (same_number k)
 
 pub fresh_taken :
-    (n votes need word a b : ℕ) → (made_of n votes need word).refusal ≡ 0 → outside n a || outside n b ≡ false
+    (n votes need word a b : ℕ) → (made_of n votes need word).refusal ≡ None → outside n a || outside n b ≡ false
     → number_of (step_of (made_of n votes need word).state a b).answer ≡ 0
 unfolding made_of
 fresh_taken n votes need word a b e inside =
-    let m = accepted (bad_counts votes need) n word (λ (m : TupleMade). m.refusal) not_made (made n votes need word) (λ k. refl) refl e in
+    let m = accepted (bad_counts votes need) n word (λ (m : Made Tuple). number_in m.refusal) not_made (made n votes need word) (λ r. refl) refl (ap number_in e) in
     let g = fresh_sound n votes need word m in
     rw (made_fresh n votes need word m, step_is_clauses n (fresh n votes need word) a b g inside) (none_refused (fresh n votes need word) a b)

@@ -9,6 +9,8 @@ use lib.ListN.{length}
 use borrow.Author.Tests.{eq-eqb}
 use Rattle.std.specs.Prelude.{if◌then◌else◌}
 use Rattle.rules.specs.Limits.{bad_count}
+use Rattle.rules.specs.declared.refusal.Refusal.{Refusal}
+use Rattle.rules.specs.Refusal.{refusal_of}
 use Rattle.rules.specs.Table.{first, answer}
 use Rattle.rules.specs.Refusals.{make_rows}
 use Rattle.trace.proofs.Steps.{follows_at}
@@ -34,9 +36,9 @@ same_count need = go (bad_count need) where
   go false = refl
 
 -- an answer told in other words: refused or not
-retold : {A B : Type 0} (f : A → B) (number : ℕ) (refuse : ℕ → A) (work : A) → answer number (λ k. f (refuse k)) (f work) ≡ f (answer number refuse work)
+retold : {A B : Type 0} (f : A → B) (number : ℕ) (refuse : Refusal → A) (work : A) → answer number (λ r. f (refuse r)) (f work) ≡ f (answer number refuse work)
 retold {A} {B} f number refuse work = go (eqb number 0) where
-  go : (p : Bool) → ◌≡◌ {A = B} (if p then f work else f (refuse number)) (f (if p then work else refuse number))
+  go : (p : Bool) → ◌≡◌ {A = B} (if p then f work else f (refuse (refusal_of number))) (f (if p then work else refuse (refusal_of number)))
   go true = refl
   go false = refl
 
@@ -58,10 +60,10 @@ module _ (s : OneCount) (a b : ℕ) where
   of_twice : AsBefore (step_of (twice s) a b) (one.step_of s a b)
   unfolding step_of one.step_of
   of_twice = rw (same_count s.confirm.need) (go (eqb (first (one.rows_of s a b)) 0)) where
-    number : ℕ
-    number = first (one.rows_of s a b)
+    refusal : Refusal
+    refusal = refusal_of (first (one.rows_of s a b))
 
-    go : (p : Bool) → AsBefore (if p then clauses (twice s) a b else not_taken (twice s) number) (if p then one.clauses s a b else one.not_taken s number)
+    go : (p : Bool) → AsBefore (if p then clauses (twice s) a b else not_taken (twice s) refusal) (if p then one.clauses s a b else one.not_taken s refusal)
     go true = same_clauses
     go false = record { state = refl; answer = refl }
 

@@ -1,5 +1,5 @@
 -- The table of a step, where it gives no number: what is known then, and that the step is the clauses.
-use mathlib.Core.Path.{◌≡◌, refl, sym}
+use mathlib.Core.Path.{◌≡◌, sym}
 use mathlib.Core.Logic.{◌↔◌}
 use mathlib.Core.Bool.{◌||◌}
 use Prim.Native.Nat.{ℕ, ◌≤◌}
@@ -22,4 +22,4 @@ module _ (s : Tuple) (a b : ℕ) where
 
     pub taken : step_of s a b ≡ clauses s a b
     unfolding step_of
-    taken = sym (works (not_taken s) (clauses s a b) refl e)
+    taken = sym (works (not_taken s) (clauses s a b) _ e)

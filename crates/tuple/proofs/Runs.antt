@@ -14,10 +14,10 @@ use Rattle.trace.specs.Trace.{trace}
 use Rattle.trace.proofs.Steps.{at_each, follows}
 use Rattle.confirm.specs.Confirm as confirm
 use Rattle.confirm.specs.Run as confirm_run
-use Rattle.confirm.specs.declared.ConfirmStep.{ConfirmStep}
+use Rattle.confirm.specs.Answers.{ConfirmStep}
 use Rattle.vote.specs.Alarms.{Disagreeing}
 use Rattle.vote.specs.Run as vote_run
-use Rattle.vote.specs.declared.VoteStep.{VoteStep}
+use Rattle.vote.specs.Answers.{VoteStep}
 use Rattle.vote.proofs.Alarms.{alarm_exactly}
 use Rattle.tuple.specs.declared.Tuple.{Tuple}
 use Rattle.tuple.specs.declared.TupleAnswer.{TupleAnswer}

@@ -10,8 +10,8 @@ use Rattle.rules.specs.Bits.{bit}
 use Rattle.rules.specs.Limits.{outside}
 use Rattle.trace.specs.Answers.{after}
 use Rattle.trace.specs.Trace.{left}
-use Rattle.trace.specs.declared.RunAnswer.{RunAnswer}
-use Rattle.trace.specs.declared.RunAnswer.TheVariants.{Done}
+use Rattle.trace.specs.Answers.{RunResult}
+use Rattle.trace.specs.Answers.{done}
 use Rattle.trace.proofs.Columns.{zip_length, zip_at}
 use Rattle.trace.proofs.Steps.{shown_at, kept}
 use Rattle.vote.specs.Run as vote_run
@@ -71,7 +71,7 @@ module _ (s : Tuple) (xs : List (ℕ × ℕ)) (k : ℕ) (m : k < length xs) wher
 
 -- so a run's answer and slices are all that its promise asks for
 pub promised :
-    {n votes need word : ℕ} {a b words masks marks seconds : List ℕ} {r : RunAnswer} {words' masks' marks' seconds' : List ℕ}
+    {n votes need word : ℕ} {a b words masks marks seconds : List ℕ} {r : RunResult} {words' masks' marks' seconds' : List ℕ}
     → let taken = steps (fresh n votes need word) (zip a b) in
     r ≡ answer_of n votes need word a b words masks marks seconds
     → words' ≡ after r words (map shown_word taken) → masks' ≡ after r masks (map shown_mask taken) → marks' ≡ after r marks (map shown_mark taken)
@@ -92,7 +92,7 @@ promised {n} {votes} {need} {word} {a} {b} {words} {masks} {marks} {seconds} is 
 -- what a run says, by its contract
 module _
     (n votes need word : ℕ) (a b words masks marks seconds words' masks' marks' seconds' : List ℕ)
-    (ran : Ran n votes need word a b words masks marks seconds Done words' masks' marks' seconds') (k : ℕ) (m : k < length a) where
+    (ran : Ran n votes need word a b words masks marks seconds done words' masks' marks' seconds') (k : ℕ) (m : k < length a) where
   long : length a ≡ length b
   long = (accept n votes need word a b words masks marks seconds (sym ran.answered)).second_long
 

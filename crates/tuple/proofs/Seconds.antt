@@ -16,7 +16,7 @@ use Rattle.rules.specs.Limits.{outside}
 use Rattle.rules.specs.Table.{first}
 use Rattle.rules.proofs.Bits.{and_bit, xor_exactly, not_bit}
 use Rattle.rules.proofs.Signals.{bit_small, word_bit}
-use Rattle.rules.proofs.Tables.{either_answer}
+use Rattle.rules.proofs.Tables.{either_answer, never_zero}
 use Rattle.rules.proofs.Width.{inside_lt, lt_inside, zero_inside, words_agree}
 use Rattle.vote.specs.Answers.{byte_of, which_of}
 use Rattle.vote.specs.Vote as vote
@@ -88,7 +88,7 @@ module _ (s : Tuple) (a b : ℕ) where
   pub step_tells : Tells s a b (step_of s a b)
   unfolding step_of
   step_tells =
-      either_answer (Tells s a b) (first (rows_of s a b)) (not_taken s) (clauses s a b) (λ k some none. absurd (some none)) (λ e none. tells)
+      either_answer (Tells s a b) (first (rows_of s a b)) (not_taken s) (clauses s a b) (λ r none. absurd (never_zero r none)) (λ e none. tells)
 
   pub step_second :
       number_of (step_of s a b).answer ≡ 0 → (i : ℕ) → i < width s → OneWhereSecond (bit i s.agreed) (signal_of i (a, b)) (bit i (step_of s a b).second)
@@ -96,14 +96,14 @@ module _ (s : Tuple) (a b : ℕ) where
   step_second =
       either_answer
       (λ (t : TupleStep). number_of t.answer ≡ 0 → (i : ℕ) → i < width s → OneWhereSecond (bit i s.agreed) (signal_of i (a, b)) (bit i t.second))
-      (first (rows_of s a b)) (not_taken s) (clauses s a b) (λ k some none. absurd (some none)) (λ e none. second_exactly)
+      (first (rows_of s a b)) (not_taken s) (clauses s a b) (λ r none. absurd (never_zero r none)) (λ e none. second_exactly)
 
   -- refused or not
   pub step_inside : outside (width s) (step_of s a b).second ≡ false
   unfolding step_of
   step_inside =
       either_answer (λ (t : TupleStep). outside (width s) t.second ≡ false) (first (rows_of s a b)) (not_taken s) (clauses s a b)
-      (λ k some. zero_inside (width s)) (λ e. second_inside)
+      (λ r. zero_inside (width s)) (λ e. second_inside)
 
 -- of words inside the width it is (a XOR b) AND NOT (b XOR agreed)
 module _ (s : Tuple) (a b : ℕ) (wide : width s ≤ 32) (a_in : outside (width s) a ≡ false) (b_in : outside (width s) b ≡ false) (agreed_in : outside (width s) s.agreed ≡ false) where

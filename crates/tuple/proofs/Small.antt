@@ -10,7 +10,7 @@ use Rattle.std.specs.Prelude.{if◌then◌else◌}
 use Rattle.rules.specs.Signals.{as_word}
 use Rattle.rules.proofs.Signals.{bit_small, word_small}
 use Rattle.vote.specs.declared.VoteAnswer.{VoteAnswer}
-use Rattle.vote.specs.declared.VoteStep.{VoteStep}
+use Rattle.vote.specs.Answers.{VoteStep}
 use Rattle.vote.specs.declared.VoteAnswer.TheVariants.{Agreed, Held, Alarm, Refused}
 use Rattle.vote.specs.declared.Which.{Which}
 use Rattle.vote.specs.declared.Which.TheVariants.{First, Second, Neither}

@@ -10,7 +10,7 @@ use Rattle.rules.specs.Table.{first}
 use Rattle.rules.proofs.Readings.{Makes, makes, run_makes}
 use Rattle.rules.proofs.Tables.{or_neither, or_each}
 use Rattle.trace.specs.Samples.{outside_pair}
-use Rattle.trace.specs.declared.RunAnswer.TheVariants.{Done}
+use Rattle.trace.specs.Answers.{done}
 use Rattle.trace.proofs.Samples.{nowhere}
 use Rattle.trace.proofs.Steps.{agree}
 use Rattle.tuple.specs.declared.Tuple.{Tuple}
@@ -61,7 +61,7 @@ same_steps n votes need word m xs inside =
 
 pub run_is_steps :
     (n votes need word : ℕ) (a b words masks marks seconds words' masks' marks' seconds' : List ℕ)
-    → Ran n votes need word a b words masks marks seconds Done words' masks' marks' seconds' → Stepwise n votes need word a b words' masks' marks' seconds'
+    → Ran n votes need word a b words masks marks seconds done words' masks' marks' seconds' → Stepwise n votes need word a b words' masks' marks' seconds'
 run_is_steps n votes need word a b words masks marks seconds words' masks' marks' seconds' ran =
     let f = fine n votes need word a b words masks marks seconds (sym ran.answered) in
     let m = run_makes _ _ _ _ _ _ f in

@@ -15,7 +15,7 @@ use Rattle.rules.proofs.Width.{inside_lt, words_agree}
 use Rattle.trace.proofs.Steps.{at_each, follows_at}
 use Rattle.confirm.specs.Confirm as confirm
 use Rattle.confirm.specs.Run as confirm_run
-use Rattle.confirm.specs.declared.ConfirmStep.{ConfirmStep}
+use Rattle.confirm.specs.Answers.{ConfirmStep}
 use Rattle.tuple.specs.declared.Tuple.{Tuple}
 use Rattle.tuple.specs.declared.TupleStep.{TupleStep}
 use Rattle.tuple.specs.declared.Voters.{Voters}

@@ -7,7 +7,7 @@ use Rattle.rules.specs.Limits.{default_word}
 use Rattle.rules.specs.Promise.{Fixes}
 use Rattle.rules.proofs.Promise.{fixes}
 use Rattle.trace.specs.Answers.{after}
-use Rattle.trace.specs.declared.RunAnswer.{RunAnswer}
+use Rattle.trace.specs.Answers.{RunResult}
 use Rattle.tuple.specs.Answers.{number_of, word_of, mask_of, mark_of}
 use Rattle.tuple.specs.Tuple.{fresh, made_of, step_of}
 use Rattle.tuple.specs.Run.{steps, shown_word, shown_mask, shown_mark, shown_second, answer_of}
@@ -43,7 +43,7 @@ step_unique = fixes (λ a z e p. p.0)
 
 -- a run: its answer, and each slice as it leaves it
 abbrev pub Seen : Type 0
-Seen = RunAnswer × List ℕ × List ℕ × List ℕ × List ℕ
+Seen = RunResult × List ℕ × List ℕ × List ℕ × List ℕ
 
 abbrev pub ran : ℕ → ℕ → ℕ → ℕ → List ℕ → List ℕ → List ℕ → List ℕ → List ℕ → List ℕ → Seen
 ran n votes need w a b words masks marks seconds =

@@ -2,21 +2,22 @@
 -- unit: the text of `Tuple.antt` and of `Run.antt` then, of a state without the voters' count. What these left alone is not said
 -- again; of today's voters what T-09 has them tell is not read. No promise names it: it serves the theorems that with equal counts
 -- nothing else changed (`proofs/OneCount.antt`).
-use Rattle.std.specs.Prelude.{ℕ, ◌≡◌, Bool, not, ◌||◌, eqb, length, replicate, if◌then◌else◌}
+use Rattle.std.specs.Prelude.{ℕ, ◌≡◌, Bool, not, ◌||◌, eqb, length, replicate, if◌then◌else◌, Option, Some, None}
 use mathlib.Core.List.{List, map, zip}
+use Rattle.rules.specs.declared.refusal.Refusal.{Refusal}
 use Rattle.rules.specs.Limits.{bad_count, outside, differ}
 use Rattle.rules.specs.Table.{Row, first, answer}
 use Rattle.rules.specs.Refusals.{make_rows, step_rows}
 use Rattle.trace.specs.Answers.{pair_answer, after}
 use Rattle.trace.specs.Trace.{trace}
-use Rattle.trace.specs.declared.RunAnswer.{RunAnswer}
+use Rattle.trace.specs.Answers.{RunResult}
 use Rattle.confirm.specs.Confirm as confirm
 use Rattle.confirm.specs.declared.Confirm.{Confirm}
-use Rattle.confirm.specs.declared.ConfirmStep.{ConfirmStep}
+use Rattle.confirm.specs.Answers.{ConfirmStep}
 use Rattle.tuple.specs.declared.Tuple.{Tuple}
 use Rattle.tuple.specs.declared.TupleAnswer.{TupleAnswer}
 use Rattle.tuple.specs.declared.TupleAnswer.TheVariants.{Alarm, Refused}
-use Rattle.tuple.specs.declared.TupleMade.{TupleMade}
+use Rattle.rules.specs.declared.answers.Made.{Made}
 use Rattle.tuple.specs.declared.TupleStep.{TupleStep}
 use Rattle.tuple.specs.declared.Voters.{Voters}
 use Rattle.tuple.specs.Answers.{word_of, mask_of, mark_of}
@@ -29,7 +30,7 @@ pub record OneCount : Type 0 where
 
 pub record OneMade : Type 0 where
   pub state : OneCount
-  pub refusal : ℕ
+  pub refusal : Option Refusal
 
 pub record OneStep : Type 0 where
   pub state : OneCount
@@ -67,10 +68,10 @@ unfoldable pub clauses : OneCount → ℕ → ℕ → OneStep
 clauses s a b = decided s (voters_of s a b)
 
 abbrev pub made : ℕ → ℕ → ℕ → OneMade
-made n need word = record { state = fresh n need word; refusal = 0 }
+made n need word = record { state = fresh n need word; refusal = None }
 
-abbrev pub not_made : ℕ → OneMade
-not_made number = record { state = fresh 1 1 0; refusal = number }
+abbrev pub not_made : Refusal → OneMade
+not_made refusal = record { state = fresh 1 1 0; refusal = Some refusal }
 
 unfoldable pub made_of : ℕ → ℕ → ℕ → OneMade
 made_of n need word = answer (first (make_rows (bad_count need) n word)) not_made (made n need word)
@@ -81,8 +82,8 @@ bad_state s = bad_places (width s) (vote_need s) s.counts || outside (width s) s
 abbrev pub rows_of : OneCount → ℕ → ℕ → List Row
 rows_of s a b = step_rows (miscounted s) (width s) (outside (width s) a || outside (width s) b) (bad_state s)
 
-abbrev pub not_taken : OneCount → ℕ → OneStep
-not_taken s number = record { state = s; answer = Refused number }
+abbrev pub not_taken : OneCount → Refusal → OneStep
+not_taken s refusal = record { state = s; answer = Refused refusal }
 
 unfoldable pub step_of : OneCount → ℕ → ℕ → OneStep
 step_of s a b = answer (first (rows_of s a b)) (not_taken s) (clauses s a b)
@@ -97,13 +98,13 @@ leaves t = t.state
 abbrev pub unequal : List ℕ → List ℕ → List ℕ → List ℕ → Bool
 unequal a words masks marks = differ (length a) (length words) || differ (length a) (length masks) || differ (length a) (length marks)
 
-abbrev pub answer_of : ℕ → ℕ → ℕ → List ℕ → List ℕ → List ℕ → List ℕ → List ℕ → RunAnswer
+abbrev pub answer_of : ℕ → ℕ → ℕ → List ℕ → List ℕ → List ℕ → List ℕ → List ℕ → RunResult
 answer_of n need word a b words masks marks = pair_answer (bad_count need) n word a b (unequal a words masks marks)
 
 abbrev pub column : (TupleAnswer → ℕ) → OneCount → List (ℕ × ℕ) → List ℕ
 column shown s xs = map (λ (t : OneStep). shown t.answer) (trace stepped leaves s xs)
 
-abbrev pub ran : ℕ → ℕ → ℕ → List ℕ → List ℕ → List ℕ → List ℕ → List ℕ → RunAnswer × List ℕ × List ℕ × List ℕ
+abbrev pub ran : ℕ → ℕ → ℕ → List ℕ → List ℕ → List ℕ → List ℕ → List ℕ → RunResult × List ℕ × List ℕ × List ℕ
 ran n need word a b words masks marks =
     let r = answer_of n need word a b words masks marks in
     let start = fresh n need word in
@@ -116,7 +117,7 @@ once s = record { confirm = s.confirm; agreed = s.agreed; counts = s.counts }
 abbrev pub twice : OneCount → Tuple
 twice s = record { votes = s.confirm.need; confirm = s.confirm; agreed = s.agreed; counts = s.counts }
 
-abbrev pub twice_made : OneMade → TupleMade
+abbrev pub twice_made : OneMade → Made Tuple
 twice_made m = record { state = twice m.state; refusal = m.refusal }
 
 -- a step is as before, T-09's word left out

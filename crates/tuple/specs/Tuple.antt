@@ -1,6 +1,7 @@
 -- The tuple vote: document 000, definition 15, as document 01 has it, and T-02 and T-09 of document 02. Signal i of a word is its bit i.
-use Rattle.std.specs.Prelude.{ℕ, ◌-◌, List, ◌++◌, Bool, false, not, ◌||◌, ltb, eqb, get_or, drop, replicate, if◌then◌else◌}
+use Rattle.std.specs.Prelude.{ℕ, ◌-◌, List, ◌++◌, Bool, false, not, ◌||◌, ltb, eqb, get_or, drop, replicate, if◌then◌else◌, Some, None}
 use Rattle.rules.specs.Bits.{bit}
+use Rattle.rules.specs.declared.refusal.Refusal.{Refusal}
 use Rattle.rules.specs.Limits.{bad_count, outside}
 use Rattle.rules.specs.Signals.{as_word, as_list, some_below}
 use Rattle.rules.specs.Table.{Row, first, answer}
@@ -9,18 +10,18 @@ use Rattle.confirm.specs.Confirm as confirm
 use Rattle.confirm.specs.declared.Confirm.{Confirm}
 use Rattle.confirm.specs.declared.ConfirmAnswer.{ConfirmAnswer}
 use Rattle.confirm.specs.declared.ConfirmAnswer.TheVariants.{Confirmed as ConfirmedOne, Held as HeldOne, Refused as RefusedOne}
-use Rattle.confirm.specs.declared.ConfirmStep.{ConfirmStep}
+use Rattle.confirm.specs.Answers.{ConfirmStep}
 use Rattle.vote.specs.Vote as vote
 use Rattle.vote.specs.declared.Vote.{Vote}
 use Rattle.vote.specs.declared.VoteAnswer.{VoteAnswer}
 use Rattle.vote.specs.declared.VoteAnswer.TheVariants.{Agreed as VoteAgreed, Held as VoteHeld, Alarm as VoteAlarm, Refused as VoteRefused}
-use Rattle.vote.specs.declared.VoteStep.{VoteStep}
+use Rattle.vote.specs.Answers.{VoteStep}
 use Rattle.vote.specs.declared.Which.{Which}
 use Rattle.vote.specs.declared.Which.TheVariants.{First, Second, Neither}
 use Rattle.tuple.specs.declared.Tuple.{Tuple}
 use Rattle.tuple.specs.declared.TupleAnswer.{TupleAnswer}
 use Rattle.tuple.specs.declared.TupleAnswer.TheVariants.{Confirmed, Held, Alarm, Refused}
-use Rattle.tuple.specs.declared.TupleMade.{TupleMade}
+use Rattle.rules.specs.declared.answers.Made.{Made}
 use Rattle.tuple.specs.declared.TupleStep.{TupleStep}
 use Rattle.tuple.specs.declared.Voters.{Voters}
 
@@ -111,13 +112,13 @@ unfoldable pub clauses : Tuple → ℕ → ℕ → TupleStep
 clauses s a b = decided s (voters_of s a b)
 
 -- a constructor; refused: the fresh state of n 1, both counts 1 and word zero
-abbrev pub made : ℕ → ℕ → ℕ → ℕ → TupleMade
-made n votes need word = record { state = fresh n votes need word; refusal = 0 }
+abbrev pub made : ℕ → ℕ → ℕ → ℕ → Made Tuple
+made n votes need word = record { state = fresh n votes need word; refusal = None }
 
-abbrev pub not_made : ℕ → TupleMade
-not_made number = record { state = fresh 1 1 1 0; refusal = number }
+abbrev pub not_made : Refusal → Made Tuple
+not_made refusal = record { state = fresh 1 1 1 0; refusal = Some refusal }
 
-unfoldable pub made_of : ℕ → ℕ → ℕ → ℕ → TupleMade
+unfoldable pub made_of : ℕ → ℕ → ℕ → ℕ → Made Tuple
 made_of n votes need word = answer (first (make_rows (bad_counts votes need) n word)) not_made (made n votes need word)
 
 -- 7, of the place of signal i: a count above the voters' N-1, or, at n and above, a count that is not zero
@@ -135,8 +136,8 @@ abbrev pub rows_of : Tuple → ℕ → ℕ → List Row
 rows_of s a b = step_rows (miscounted s) (width s) (outside (width s) a || outside (width s) b) (bad_state s)
 
 -- a step; refused: the state as it came, and nothing is said of a unit
-abbrev pub not_taken : Tuple → ℕ → TupleStep
-not_taken s number = record { state = s; answer = Refused number; second = 0 }
+abbrev pub not_taken : Tuple → Refusal → TupleStep
+not_taken s refusal = record { state = s; answer = Refused refusal; second = 0 }
 
 unfoldable pub step_of : Tuple → ℕ → ℕ → TupleStep
 step_of s a b = answer (first (rows_of s a b)) (not_taken s) (clauses s a b)

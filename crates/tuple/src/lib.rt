@@ -15,11 +15,12 @@ ghost use Rattle.tuple.specs.Run.{Ran};
 ghost use Rattle.tuple.specs.Second.{Tells};
 
 use confirm::{Confirm, ConfirmAnswer};
+use rules::{Made, Refusal};
 use trace::RunAnswer;
 
 // The state of a tuple vote: the voters' N, the confirmation's state, which has n and its own N, the agreed signals as one word,
 // and a count for each signal; places at n and above are zero.
-#[derive(Clone, Copy)]
+#[derive(Clone, Copy, Debug, PartialEq, Eq)]
 pub struct Tuple {
     pub votes: u32,
     pub confirm: Confirm,
@@ -27,25 +28,18 @@ pub struct Tuple {
     pub counts: [u32; 32],
 }
 
-// A constructor's answer: refusal 0 is none.
-#[derive(Clone, Copy)]
-pub struct TupleMade {
-    pub state: Tuple,
-    pub refusal: u32,
-}
-
-// The word that is shown, on alarm the previous output beside the alarm mask, or a refusal's number.
-#[derive(Clone, Copy)]
+// The word that is shown, on alarm the previous output beside the alarm mask, or a refusal.
+#[derive(Clone, Copy, Debug, PartialEq, Eq)]
 pub enum TupleAnswer {
     Confirmed(u32),
     Held(u32),
     Alarm { word: u32, mask: u32 },
-    Refused(u32),
+    Refused(Refusal),
 }
 
 // A step's answer, beside the state that it leaves. Whatever the mark, `second` has a one where the signals differ and the second
 // unit shows the agreed bit; where they differ and it has none, the first does. A refused step has none.
-#[derive(Clone, Copy)]
+#[derive(Clone, Copy, Debug, PartialEq, Eq)]
 pub struct TupleStep {
     pub state: Tuple,
     pub answer: TupleAnswer,
@@ -53,7 +47,7 @@ pub struct TupleStep {
 }
 
 // What the voters of all signals leave at one sample: what the definitions of a step speak of, so other rooms can name it.
-#[derive(Clone, Copy)]
+#[derive(Clone, Copy, Debug, PartialEq, Eq)]
 pub struct Voters {
     pub word: u32,
     pub mask: u32,
@@ -70,7 +64,7 @@ impl TupleAnswer {
             TupleAnswer::Confirmed(_) => 0,
             TupleAnswer::Held(_) => 0,
             TupleAnswer::Alarm { word: _, mask: _ } => 0,
-            TupleAnswer::Refused(k) => k,
+            TupleAnswer::Refused(refusal) => refusal.into(),
         }
     }
 
@@ -117,7 +111,7 @@ fn confirmed_as(answer: ConfirmAnswer) -> TupleAnswer
     match answer {
         ConfirmAnswer::Confirmed(w) => TupleAnswer::Confirmed(w),
         ConfirmAnswer::Held(w) => TupleAnswer::Held(w),
-        ConfirmAnswer::Refused(k) => TupleAnswer::Refused(k),
+        ConfirmAnswer::Refused(refusal) => TupleAnswer::Refused(refusal),
     }
 }
 
@@ -162,20 +156,23 @@ impl Tuple {
     }
 
     // A fresh state from a width, the voters' count, the confirmation's and an initial word.
-    pub fn from_word(n: u32, votes: u32, need: u32, word: u32) -> TupleMade
+    pub fn from_word(n: u32, votes: u32, need: u32, word: u32) -> Made<Tuple>
         ensures { result ≡ made_of n votes need word }
     {
-        let refusal = rules::make_refusal(bad_counts(votes, need), n, word);
-        if refusal != 0 {
-            let state = Tuple::fresh(1, 1, 1, 0);
-            return TupleMade { state, refusal };
+        match rules::make_refusal(bad_counts(votes, need), n, word) {
+            Ok(()) => Made {
+                state: Tuple::fresh(n, votes, need, word),
+                refusal: None,
+            },
+            Err(refusal) => Made {
+                state: Tuple::fresh(1, 1, 1, 0),
+                refusal: Some(refusal),
+            },
         }
-        let state = Tuple::fresh(n, votes, need, word);
-        TupleMade { state, refusal }
     }
 
     // A fresh state from all ones within the width.
-    pub fn new(n: u32, votes: u32, need: u32) -> TupleMade
+    pub fn new(n: u32, votes: u32, need: u32) -> Made<Tuple>
         ensures { result ≡ made_of n votes need (default_word n) }
     {
         Tuple::from_word(n, votes, need, rules::default_word(n))
@@ -249,10 +246,10 @@ impl Tuple {
         let confirm = self.confirm;
         let refused = !self.admits(a, b);
         if refused {
-            let number = rules::step_number(self.miscounted(), confirm.n, a | b);
+            let refusal = rules::step_refusal(self.miscounted(), confirm.n, a | b);
             return TupleStep {
                 state: self,
-                answer: TupleAnswer::Refused(number),
+                answer: TupleAnswer::Refused(refusal),
                 second: 0,
             };
         }
@@ -280,11 +277,8 @@ pub fn run(
     let len = a.len();
     let some_unequal = (len != words.len()) | (len != masks.len()) | (len != marks.len());
     let unequal = some_unequal | (len != seconds.len());
-    let answer = trace::judge_pair(bad_counts(votes, need), n, word, a, b, unequal);
-    let RunAnswer::Done = answer else {
-        return answer;
-    };
+    trace::judge_pair(bad_counts(votes, need), n, word, a, b, unequal)?;
     let start = Tuple::fresh(n, votes, need, word);
     steps::write_steps(start, a, b, words, masks, marks, seconds);
-    RunAnswer::Done
+    Ok(())
 }

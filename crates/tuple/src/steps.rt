@@ -1,7 +1,7 @@
 // The steps of a run, which has tested the words itself.
 ghost use Rattle.std.specs.Prelude.{◌≡◌};
 ghost use mathlib.Core.List.{map, zip};
-ghost use Rattle.trace.specs.declared.RunAnswer.TheVariants.{Done};
+ghost use Rattle.trace.specs.Answers.{done};
 ghost use Rattle.tuple.specs.Tuple.{fresh};
 ghost use Rattle.tuple.specs.Run.{steps, shown_word, shown_mask, shown_mark, shown_second, answer_of};
 
@@ -19,7 +19,7 @@ pub(crate) fn write_steps(
     seconds: &mut [u32],
 )
     requires accepted { answer_of start.confirm.n start.votes start.confirm.need start.agreed a.now b.now
-        words.old masks.old marks.old seconds.old ≡ Done }
+        words.old masks.old marks.old seconds.old ≡ done }
     requires from_fresh { start ≡ fresh start.confirm.n start.votes start.confirm.need start.agreed }
     ensures words_after { words.new ≡ map shown_word (steps start (zip a.now b.now)) }
     ensures masks_after { masks.new ≡ map shown_mask (steps start (zip a.now b.now)) }

@@ -6,6 +6,7 @@ use Prim.Native.Nat.{ℕ}
 use lib.Bits.{bit_or}
 use lib.Dec.{eqb}
 use Rattle.rules.specs.Limits.{outside}
+use Rattle.rules.specs.Refusal.{refusal_of}
 use Rattle.rules.specs.Table.{first}
 use Rattle.rules.specs.Refusals.{step_rows}
 use Rattle.rules.proofs.OneTest.{not_taken_lem}
@@ -29,7 +30,7 @@ none s a b is admitted = eqb-true _ _ (sym is ∙ admitted)
 -- where it doesn't, the step is the refusal
 no_step :
     (s : Tuple) (a b : ℕ) {r : Bool} → r ≡ eqb (first (rows_of s a b)) 0 → r ≡ false
-    → not_taken s (first (step_rows (miscounted s) (width s) (outside (width s) (bit_or a b)) true)) ≡ step_of s a b
+    → not_taken s (refusal_of (first (step_rows (miscounted s) (width s) (outside (width s) (bit_or a b)) true))) ≡ step_of s a b
 unfolding step_of
 no_step s a b is refused =
     not_taken_lem (miscounted s) (width s) (bit_or a b) (bad_state s) (outside_or (width s) a b) (not_taken s) (clauses s a b) (sym is ∙ refused)
@@ -37,8 +38,8 @@ no_step s a b is refused =
 pub returns-then-refused : goal.returns-then-refused
 returns-then-refused c =
     let x = c.args in
-    let is : not_taken x.self c.step_number-number.result ≡ step_of x.self x.a x.b
-    = rw (c.step_number-number.ensures, c.miscounted.ensures) (no_step x.self x.a x.b c.admits-refused.ensures c.if-refused.true) in
+    let is : not_taken x.self c.step_refusal-refusal.result ≡ step_of x.self x.a x.b
+    = rw (c.step_refusal-refusal.ensures, c.miscounted.ensures) (no_step x.self x.a x.b c.admits-refused.ensures c.if-refused.true) in
     record { value = is; tells = told x.self x.a x.b is }
 
 pub voters-requires : goal.voters-requires

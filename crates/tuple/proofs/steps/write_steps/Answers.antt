@@ -9,7 +9,7 @@ use borrow.Author.Rules.{rules}
 use borrow.Author.Tests.{eqb-true, not-false}
 use lib.ListN.{length, get_or}
 use Rattle.rules.specs.Limits.{outside}
-use Rattle.trace.specs.declared.RunAnswer.TheVariants.{Done}
+use Rattle.trace.specs.Answers.{done}
 use Rattle.trace.proofs.FillPairs.{start_pair, turn_pair, filled_pair}
 use Rattle.tuple.specs.Disagreement.{disagreement, voters_by}
 use Rattle.tuple.specs.Run.{stepped, leaves, shown_word, shown_mask, shown_mark, shown_second, answer_of}
@@ -32,7 +32,7 @@ found_so {n} ok i here is = let inside = ok.inside i here in is n inside.0 insid
 -- a run that is accepted goes from the state that is handed over
 ok_from :
     (start : Tuple) (a b words masks marks seconds : List ℕ)
-    → answer_of (width start) (vote_need start) start.confirm.need start.agreed a b words masks marks seconds ≡ Done
+    → answer_of (width start) (vote_need start) start.confirm.need start.agreed a b words masks marks seconds ≡ done
     → start ≡ fresh (width start) (vote_need start) start.confirm.need start.agreed
     → Accepted (width start) start a b words masks marks seconds
 ok_from start a b words masks marks seconds accepted e =
