@@ -8,14 +8,14 @@ use borrow.Author.Tests.{le-ltb, eq-eqb}
 use Rattle.rules.specs.Limits.{bad_count, too_long, differ, outside}
 use Rattle.rules.proofs.Readings.{Runs}
 use Rattle.trace.specs.Samples.{somewhere, outside_pair, outside_four}
-use Rattle.trace.specs.declared.RunAnswer.{RunAnswer}
-use Rattle.trace.specs.declared.RunAnswer.TheVariants.{Done}
+use Rattle.trace.specs.Answers.{RunResult}
+use Rattle.trace.specs.Answers.{done}
 use Rattle.trace.proofs.Columns.{zip_length}
 use Rattle.trace.proofs.Pairs.{neither}
 use Rattle.trace.proofs.Runs.{done_when}
 use Rattle.confirm.specs.Confirm as confirm
 use Rattle.confirm.specs.Run as confirm_run
-use Rattle.confirm.specs.declared.ConfirmStep.{ConfirmStep}
+use Rattle.confirm.specs.Answers.{ConfirmStep}
 use Rattle.tuple.specs.Run as tuple_run
 use Rattle.tuple.specs.declared.TupleStep.{TupleStep}
 use Rattle.tuple.proofs.OneCount.{same_count}
@@ -45,24 +45,24 @@ module _ (h : Header) (run : Runnable h) where
     abbrev confirm_taken : List ConfirmStep
     confirm_taken = confirm_run.steps (confirm.fresh h.n h.need h.word) one
 
-    pub confirm_done : confirm_run.answer_of h.n h.need h.word one words marks counts ≡ Done
+    pub confirm_done : confirm_run.answer_of h.n h.need h.word one words marks counts ≡ done
     confirm_done =
         let e = x.whole in
         done_when _ _ _ _ _ outside one
         (fine _ _ _ (short e run.few) (rw (alike e r.for_words, alike e r.for_marks) (alike e r.for_lasts)) x.inside)
 
     pub confirm_shown_lem :
-        {a : RunAnswer} {words' marks' counts' : List ℕ} → confirm_run.Ran h.n h.need h.word one words marks counts a words' marks' counts'
+        {a : RunResult} {words' marks' counts' : List ℕ} → confirm_run.Ran h.n h.need h.word one words marks counts a words' marks' counts'
         → (words' ≡ map confirm_run.shown_word confirm_taken) × (marks' ≡ map confirm_run.shown_mark confirm_taken) × (counts' ≡ map confirm_run.shown_count confirm_taken)
     confirm_shown_lem {a} ran =
-        let d : a ≡ Done = ran.answered ∙ confirm_done in
+        let d : a ≡ done = ran.answered ∙ confirm_done in
         (rw d at ran.words_after, rw d at ran.marks_after, rw d at ran.counts_after)
 
   module _ {one two words marks masks seconds : List ℕ} (x : Column h one) (y : Column h two) (r : Room h words marks masks) (told : Spare h seconds) where
     abbrev pair_taken : List TupleStep
     pair_taken = pair_steps h.n h.need h.word one two
 
-    pub pair_done : tuple_run.answer_of h.n h.need h.need h.word one two words masks marks seconds ≡ Done
+    pub pair_done : tuple_run.answer_of h.n h.need h.need h.word one two words masks marks seconds ≡ done
     pair_done =
         let e = x.whole in
         rw (same_count h.need) (done_when _ _ _ _ _ outside_pair (zip one two)
@@ -71,11 +71,11 @@ module _ (h : Header) (run : Runnable h) where
         (neither (outside h.n) (outside h.n) one two (same x y) x.inside y.inside)))
 
     pub pair_shown :
-        {a : RunAnswer} {words' masks' marks' seconds' : List ℕ}
+        {a : RunResult} {words' masks' marks' seconds' : List ℕ}
         → tuple_run.Ran h.n h.need h.need h.word one two words masks marks seconds a words' masks' marks' seconds'
         → (words' ≡ map tuple_run.shown_word pair_taken) × (marks' ≡ map tuple_run.shown_mark pair_taken) × (masks' ≡ map tuple_run.shown_mask pair_taken)
     pair_shown {a} ran =
-        let d : a ≡ Done = ran.answered ∙ pair_done in
+        let d : a ≡ done = ran.answered ∙ pair_done in
         (rw d at ran.words_after, rw d at ran.marks_after, rw d at ran.masks_after)
 
   module _ {one two three four : List ℕ} (units : (Column h one) × (Column h two) × (Column h three) × (Column h four)) where
@@ -92,7 +92,7 @@ module _ (h : Header) (run : Runnable h) where
         (neither (outside h.n) (outside h.n) three four q units.2.inside units.3.inside)
 
     module _ {words marks lasts which : List ℕ} (r : Room h words marks lasts) (told : Spare h which) where
-      pub reserve_done : reserve_run.answer_of h.n h.need h.word one two three four words marks which ≡ Done
+      pub reserve_done : reserve_run.answer_of h.n h.need h.word one two three four words marks which ≡ done
       reserve_done =
           let e = units.0.whole in
           let few = run.few in
@@ -102,8 +102,8 @@ module _ (h : Header) (run : Runnable h) where
           four_in)
 
       pub reserve_shown_lem :
-          {a : RunAnswer} {words' marks' which' : List ℕ} → reserve_run.Ran h.n h.need h.word one two three four words marks which a words' marks' which'
+          {a : RunResult} {words' marks' which' : List ℕ} → reserve_run.Ran h.n h.need h.word one two three four words marks which a words' marks' which'
           → (words' ≡ map reserve_run.shown_word reserve_taken) × (marks' ≡ map reserve_run.shown_mark reserve_taken)
       reserve_shown_lem {a} ran =
-          let d : a ≡ Done = ran.answered ∙ reserve_done in
+          let d : a ≡ done = ran.answered ∙ reserve_done in
           (rw d at ran.words_after, rw d at ran.marks_after)

@@ -9,7 +9,10 @@ use lib.Dec.{ltb, eqb}
 use lib.ListN.{length, get_or}
 use borrow.Author.Tests.{ne_eqb}
 use Rattle.std.specs.Prelude.{if◌then◌else◌}
-use Rattle.trace.specs.declared.RunAnswer.TheVariants.{Done, Refused}
+use Rattle.rules.specs.Refusal.{number}
+use Rattle.std.specs.Prelude.{Err}
+use Rattle.trace.specs.declared.Refused.{Refused}
+use Rattle.trace.specs.Answers.{done}
 use Rattle.recording.specs.Recording.{header_of, read_of}
 use Rattle.text.specs.Text.{bytes, glyph, digits, line}
 use Rattle.listing.specs.declared.Kind.{Kind}
@@ -84,8 +87,8 @@ lines_counted kind n need words marks lasts =
 
 -- over whole recordings: one line where it is refused, and one more than it has samples where it is accepted
 module _ (s : List ℕ) where
-  pub refused_lines : (number sample : ℕ) → (read_of false s).answer ≡ Refused number sample → newlines (text_of s) ≡ 1
-  refused_lines number sample e = rw (refused_text_lem s number sample e) (refused_one_line number sample)
+  pub refused_lines : (r : Refused) → (read_of false s).answer ≡ Err r → newlines (text_of s) ≡ 1
+  refused_lines r e = rw (refused_text_lem s r e) (refused_one_line (number r.refusal) r.sample)
 
-  pub accepted_lines : (read_of false s).answer ≡ Done → newlines (text_of s) ≡ (header_of s).samples + 1
+  pub accepted_lines : (read_of false s).answer ≡ done → newlines (text_of s) ≡ (header_of s).samples + 1
   accepted_lines = accepted_shown s (λ (text : List ℕ). newlines text ≡ (header_of s).samples + 1) (λ kind words marks lasts l. rw (← l) (lines_counted kind _ _ words marks lasts))

@@ -4,8 +4,8 @@ use mathlib.Core.Bool.{false}
 use mathlib.Core.List.{List}
 use Prim.Native.Nat.{ℕ}
 use lib.ListN.{take}
-use Rattle.trace.specs.declared.RunAnswer.{RunAnswer}
-use Rattle.trace.specs.declared.RunAnswer.TheVariants.{Done}
+use Rattle.trace.specs.Answers.{RunResult}
+use Rattle.trace.specs.Answers.{done}
 use Rattle.recording.specs.declared.RecordingRead.{RecordingRead}
 use Rattle.recording.specs.Recording.{header_of, read_of, Read}
 use Rattle.recording.proofs.Taken.{Accepted, taken}
@@ -14,12 +14,12 @@ use Rattle.listing.specs.Runnable.{Runnable, Units}
 use Rattle.listing.proofs.Columns.{runnable, fit, same_text}
 use Rattle.listing.proofs.Texts.{accepted_text}
 
-abbrev pub answer_of_lem : RecordingRead → RunAnswer
+abbrev pub answer_of_lem : RecordingRead → RunResult
 answer_of_lem r = r.answer
 
 module _
     (s times one two three four : List ℕ) (r : RecordingRead) (times' one' two' three' four' : List ℕ)
-    (read : Read s times one two three four r times' one' two' three' four') (e : r ≡ read_of false s) (done : r.answer ≡ Done) where
+    (read : Read s times one two three four r times' one' two' three' four') (e : r ≡ read_of false s) (done : r.answer ≡ done) where
   ok : Accepted false s
   ok = taken false s (ap answer_of_lem (sym e) ∙ done)
 

@@ -1,5 +1,5 @@
 -- The text of a recording tells how it was read and what its run answered: recordings that differ in either have two texts.
-use mathlib.Core.Path.{◌≡◌, refl, sym, ap, ◌∙◌}
+use mathlib.Core.Path.{◌≡◌, refl, sym, ap, ◌∙◌, ap₂}
 use mathlib.Core.Bool.{Bool, true, false}
 use mathlib.Core.List.{List, zip}
 use mathlib.Core.Logic.{⊎_elim}
@@ -9,14 +9,18 @@ use lib.Dec.{eqb}
 use borrow.Author.Tests.{ltb-false, eqb-true, eqb-false, eq-eqb, ne_eqb}
 use Rattle.std.specs.Prelude.{if◌then◌else◌}
 use Rattle.rules.specs.Limits.{bad_count, outside}
-use Rattle.rules.specs.Table.{first}
+use Rattle.rules.specs.Table.{known}
 use Rattle.rules.proofs.Readings.{Makes}
 use Rattle.rules.proofs.Signals.{list_length}
-use Rattle.rules.proofs.Tables.{own_number, all_up_to, first_most}
+use Rattle.rules.proofs.Tables.{own_number, all_up_to, first_most, number_tells}
 use Rattle.trace.specs.Answers.{run_number, run_sample, not_run}
 use Rattle.trace.specs.Samples.{first_where, outside_four}
-use Rattle.trace.specs.declared.RunAnswer.{RunAnswer}
-use Rattle.trace.specs.declared.RunAnswer.TheVariants.{Done, Refused}
+use Rattle.trace.specs.Answers.{RunResult}
+use Rattle.rules.specs.Refusal.{number}
+use Rattle.std.specs.Prelude.{Ok, Err}
+use Rattle.rules.specs.Refusal.{refusal_of}
+use Rattle.trace.specs.declared.Refused.{Refused}
+use Rattle.trace.specs.Answers.{done, refused}
 use Rattle.trace.proofs.Samples.{nowhere}
 use Rattle.confirm.specs.Confirm as confirm
 use Rattle.confirm.specs.Run as confirm_run
@@ -78,7 +82,7 @@ units_listed h one two three four = go (eqb h.units 1) (eqb h.units 2) where
 abbrev pub table_of : List ℕ → Answers
 table_of s = let h = header_of s in units_table h (unit s h 1) (unit s h 2) (unit s h 3) (unit s h 4)
 
-module _ (s : List ℕ) (done : (read_of false s).answer ≡ Done) where
+module _ (s : List ℕ) (done : (read_of false s).answer ≡ done) where
   abbrev h : Header
   h = header_of s
 
@@ -132,46 +136,48 @@ module _ (s : List ℕ) (done : (read_of false s).answer ≡ Done) where
   text_listed = accepted_text s ok done ∙ units_listed h (unit s h 1) (unit s h 2) (unit s h 3) (unit s h 4)
 
 -- THE TEXT TELLS THE ANSWERS: accepted recordings of one text have one table
-pub same_answers : (s s' : List ℕ) → (read_of false s).answer ≡ Done → (read_of false s').answer ≡ Done → text_of s ≡ text_of s' → table_of s ≡ table_of s'
+pub same_answers : (s s' : List ℕ) → (read_of false s).answer ≡ done → (read_of false s').answer ≡ done → text_of s ≡ text_of s' → table_of s ≡ table_of s'
 same_answers s s' d d' e = listing_inj (table_of s) (table_of s') (table_listable s d) (table_listable s' d') (sym (text_listed s d) ∙ e ∙ text_listed s' d')
 
 -- and no refused recording has the text of an accepted one
-never_both :
-    (s s' : List ℕ) (number sample : ℕ) → (read_of false s).answer ≡ Done → (read_of false s').answer ≡ Refused number sample → text_of s ≡ text_of s' → ⊥
-never_both s s' number sample d r e = refused_apart number sample (table_of s) (sym (refused_text_lem s' number sample r) ∙ sym e ∙ text_listed s d)
+never_both : (s s' : List ℕ) (r : Refused) → (read_of false s).answer ≡ done → (read_of false s').answer ≡ Err r → text_of s ≡ text_of s' → ⊥
+never_both s s' r d f e = refused_apart (number r.refusal) r.sample (table_of s) (sym (refused_text_lem s' r f) ∙ sym e ∙ text_listed s d)
 
 -- so a refusal's number is 12 at the most; and its sample, where 6 is given, is one of few
-module _ (s : List ℕ) (number sample : ℕ) (refused : (read_of false s).answer ≡ Refused number sample) where
-  number_most : number ≤ 12
-  unfolding read_of all_up_to
+module _ (s : List ℕ) (r : Refused) (refused : (read_of false s).answer ≡ Err r) where
+  number_most : number r.refusal ≤ 12
+  unfolding read_of all_up_to known refusal_of
   number_most =
-      let own = own_number run_number (first (rows_of false s)) (not_run (first_where (outside_at s (header_of s)) (numbers (header_of s)))) Done (λ k. refl) refl in
+      let own = own_number run_number (rows_of false s) (not_run (first_where (outside_at s (header_of s)) (numbers (header_of s)))) done refl (λ r. refl) refl in
       omega (arith, own, ap run_number refused, first_most 12 (rows_of false s) refl)
 
-  sample_most : sample ≤ 2048
-  sample_most = go (eqb number 6) refl where
-    go : (b : Bool) → eqb number 6 ≡ b → sample ≤ 2048
+  sample_most : r.sample ≤ 2048
+  sample_most = go (eqb (number r.refusal) 6) refl where
+    go : (b : Bool) → eqb (number r.refusal) 6 ≡ b → r.sample ≤ 2048
     go true e =
-        let six = ap run_number refused ∙ eqb-true number 6 e in
+        let six = ap run_number refused ∙ eqb-true (number r.refusal) 6 e in
         let few = ltb-false 2048 (header_of s).samples ((read_exactly false s 6).0 six).1.1.0 in
         omega (arith, (read_six false s six).there, list_length (λ i. i) (header_of s).samples, ap run_sample refused)
-    go false e = omega (arith, read_others false s (λ six. eqb-false number 6 e (sym (ap run_number refused) ∙ six)), ap run_sample refused)
+    go false e = omega (arith, read_others false s (λ six. eqb-false (number r.refusal) 6 e (sym (ap run_number refused) ∙ six)), ap run_sample refused)
 
 -- refused recordings of one text are refused with one number, at one sample
 same_refusal :
-    (s s' : List ℕ) (number sample number' sample' : ℕ) → (read_of false s).answer ≡ Refused number sample → (read_of false s').answer ≡ Refused number' sample'
-    → text_of s ≡ text_of s' → (number ≡ number') × (sample ≡ sample')
-same_refusal s s' number sample number' sample' r r' e =
+    (s s' : List ℕ) (r r' : Refused) → (read_of false s).answer ≡ Err r → (read_of false s').answer ≡ Err r'
+    → text_of s ≡ text_of s' → (number r.refusal ≡ number r'.refusal) × (r.sample ≡ r'.sample)
+same_refusal s s' r r' f f' e =
     refused_inj
-    (omega (arith, number_most s number sample r)) (omega (arith, number_most s' number' sample' r'))
-    (omega (arith, sample_most s number sample r)) (omega (arith, sample_most s' number' sample' r'))
-    (sym (refused_text_lem s number sample r) ∙ e ∙ refused_text_lem s' number' sample' r')
+    (omega (arith, number_most s r f)) (omega (arith, number_most s' r' f'))
+    (omega (arith, sample_most s r f)) (omega (arith, sample_most s' r' f'))
+    (sym (refused_text_lem s r f) ∙ e ∙ refused_text_lem s' r' f')
 
 -- THE TEXT TELLS THE READING: recordings of one text are both accepted, or both refused with one number at one sample
 pub same_reading : (s s' : List ℕ) → text_of s ≡ text_of s' → (read_of false s).answer ≡ (read_of false s').answer
 same_reading s s' e = go (read_of false s).answer (read_of false s').answer refl refl where
-  go : (a a' : RunAnswer) → (read_of false s).answer ≡ a → (read_of false s').answer ≡ a' → a ≡ a'
-  go Done Done d d' = refl
-  go Done (Refused number sample) d r = absurd (never_both s s' number sample d r e)
-  go (Refused number sample) Done r d = absurd (never_both s' s number sample d r (sym e))
-  go (Refused number sample) (Refused number' sample') r r' = let q = same_refusal s s' number sample number' sample' r r' e in cc
+  go : (a a' : RunResult) → (read_of false s).answer ≡ a → (read_of false s').answer ≡ a' → a ≡ a'
+  go (Ok x) (Ok x') d d' = refl
+  go (Ok x) (Err r) d f = absurd (never_both s s' r d f e)
+  go (Err r) (Ok x) f d = absurd (never_both s' s r d f (sym e))
+  go (Err r) (Err r') f f' =
+      let q = same_refusal s s' r r' f f' e in
+      let refusal : r.refusal ≡ r'.refusal = number_tells r.refusal r'.refusal q.0 in
+      ap₂ refused refusal q.1

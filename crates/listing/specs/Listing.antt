@@ -1,11 +1,11 @@
 -- The text of a listing: document 01, "The recording". Bytes of a recording in, text out, line by line.
-use Rattle.std.specs.Prelude.{ℕ, zero, suc, ◌≤◌, ◌≡◌, Bool, false, ltb, eqb, length, get_or, drop, if◌then◌else◌}
+use Rattle.std.specs.Prelude.{ℕ, zero, suc, ◌≤◌, ◌≡◌, Bool, false, ltb, eqb, length, get_or, drop, if◌then◌else◌, Ok, Err}
 use Prim.Native.Char.{code}
 use Prim.Native.String.{String}
 use mathlib.Core.List.{List, [], ◌++◌, map, zip}
 use Rattle.rules.specs.Signals.{as_list}
-use Rattle.trace.specs.declared.RunAnswer.{RunAnswer}
-use Rattle.trace.specs.declared.RunAnswer.TheVariants.{Done, Refused as RunRefused}
+use Rattle.trace.specs.Answers.{RunResult}
+use Rattle.rules.specs.Refusal.{number}
 use Rattle.confirm.specs.Confirm as confirm
 use Rattle.confirm.specs.Run as confirm_run
 use Rattle.tuple.specs.Tuple as tuple
@@ -92,9 +92,9 @@ unfoldable pub refused_text : ℕ → ℕ → List ℕ
 refused_text number sample = bytes "refused " ++ decimal number ++ bytes " at " ++ decimal sample ++ bytes "\n"
 
 -- the text of a recording's bytes; the reader is lent slices of 2,048 places
-abbrev pub text_for : RunAnswer → List ℕ → Header → List ℕ
-text_for Done s h = units_text h (unit s h 1) (unit s h 2) (unit s h 3) (unit s h 4)
-text_for (RunRefused number sample) s h = refused_text number sample
+abbrev pub text_for : RunResult → List ℕ → Header → List ℕ
+text_for (Ok x) s h = units_text h (unit s h 1) (unit s h 2) (unit s h 3) (unit s h 4)
+text_for (Err r) s h = refused_text (number r.refusal) r.sample
 
 unfoldable pub text_of : List ℕ → List ℕ
 text_of s = text_for (read_of false s).answer s (read_of false s).header
@@ -107,9 +107,9 @@ abbrev pub too_short : ℕ → Bool
 too_short room = ltb room longest
 
 -- the answer: what was written, and how long it is
-abbrev pub answer_for : RunAnswer → ℕ → ListAnswer
-answer_for Done written = Listed written
-answer_for (RunRefused number sample) written = Refused written
+abbrev pub answer_for : RunResult → ℕ → ListAnswer
+answer_for (Ok x) written = Listed written
+answer_for (Err r) written = Refused written
 
 abbrev pub answer_of : ℕ → List ℕ → ListAnswer
 answer_of room s = if too_short room then TooShort else answer_for (read_of false s).answer (length (text_of s))

@@ -12,7 +12,6 @@ ghost use Rattle.listing.specs.Runnable.{Runnable, Units};
 use recording::Header;
 use rules::Limits;
 use runs::Run;
-use trace::RunAnswer;
 
 // What a recording's units take.
 #[derive(Clone, Copy)]
@@ -24,7 +23,7 @@ enum Kind {
 
 // How long the text is that was written: a listing, or a refused recording's line. Nothing is written into a buffer that could not
 // take the longest text.
-#[derive(Clone, Copy)]
+#[derive(Clone, Copy, Debug, PartialEq, Eq)]
 pub enum ListAnswer {
     Listed(usize),
     Refused(usize),
@@ -51,7 +50,7 @@ impl Listing {
     pub const LONGEST: usize = 50111;
 }
 
-// By the number of units.
+// By the number of units. A run over an accepted recording is never refused, so what it answers is not asked.
 fn list_units(run: Run, out: &mut [u8]) -> usize
     ensures { Writes out.old 0 (units_text run.entry.h
         run.entry.one.now run.entry.two.now run.entry.three.now run.entry.four.now) result out.new }
@@ -71,20 +70,20 @@ fn list_units(run: Run, out: &mut [u8]) -> usize
     match h.units {
         // Confirmed: the last field is the count after the step.
         1 => {
-            confirm::run(h.n, h.need, h.word, one, words, marks, lasts);
+            let _ = confirm::run(h.n, h.need, h.word, one, words, marks, lasts);
             sheet::put_listing(out, Kind::Confirm, h.n, h.need, words, marks, lasts)
         }
         // The tuple vote, with N for both counts: the last field is the alarm mask. What T-09 tells is not listed.
         2 => {
             let votes = h.need;
-            tuple::run(
+            let _ = tuple::run(
                 h.n, votes, h.need, h.word, one, two, words, lasts, marks, spare,
             );
             sheet::put_listing(out, Kind::Pair, h.n, h.need, words, marks, lasts)
         }
         // The reserve vote: the last field is the pair that was voted on. What T-09 tells is not listed.
         _ => {
-            reserve::run(
+            let _ = reserve::run(
                 h.n, h.need, h.word, one, two, three, four, words, marks, which,
             );
             reserve::pairs::tell_pairs(marks, lasts);
@@ -140,7 +139,7 @@ fn list_read(bytes: &[u8], out: &mut [u8]) -> ListAnswer
     let mut four = [0; Limits::SAMPLES];
     let read = recording::read(bytes, &mut times, &mut one, &mut two, &mut three, &mut four);
     match read.answer {
-        RunAnswer::Done => ListAnswer::Listed(list_slices(
+        Ok(()) => ListAnswer::Listed(list_slices(
             read.header,
             &mut times,
             &one,
@@ -149,9 +148,11 @@ fn list_read(bytes: &[u8], out: &mut [u8]) -> ListAnswer
             &four,
             out,
         )),
-        RunAnswer::Refused { number, sample } => {
-            ListAnswer::Refused(sheet::put_refused(out, number, sample))
-        }
+        Err(refused) => ListAnswer::Refused(sheet::put_refused(
+            out,
+            refused.refusal.into(),
+            refused.sample,
+        )),
     }
 }
 

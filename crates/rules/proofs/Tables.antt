@@ -148,7 +148,7 @@ either_answer P number refuse work refused worked = go (eqb number 0) refl
 -- a refusal has a number, and where a number is a refusal's it is that refusal's own
 positive : (refusal : Refusal) → 0 < number refusal
 positive = elim [
-    Count ↦ omega arith
+  | Count ↦ omega arith
   | Width ↦ omega arith
   | TooLong ↦ omega arith
   | Lengths ↦ omega arith
@@ -163,6 +163,26 @@ positive = elim [
 
 pub never_zero : (refusal : Refusal) → number refusal ≡ 0 → ⊥
 never_zero refusal e = omega (arith, positive refusal, e)
+
+-- so two refusals of one number are one
+named : (refusal : Refusal) → refusal_of (number refusal) ≡ refusal
+unfolding refusal_of
+named = elim [
+  | Count ↦ refl
+  | Width ↦ refl
+  | TooLong ↦ refl
+  | Lengths ↦ refl
+  | Word ↦ refl
+  | Sample ↦ refl
+  | State ↦ refl
+  | Times ↦ refl
+  | TooMany ↦ refl
+  | Reading ↦ refl
+  | NotRecording ↦ refl
+]
+
+pub number_tells : (r r' : Refusal) → number r ≡ number r' → r ≡ r'
+number_tells r r' e = sym (named r) ∙ ap refusal_of e ∙ named r'
 
 pub own : (k : ℕ) → is_refusal k ≡ true → number (refusal_of k) ≡ k
 own k e = eqb-true (number (refusal_of k)) k e

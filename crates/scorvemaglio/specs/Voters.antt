@@ -3,10 +3,10 @@ use Rattle.std.specs.Prelude.{ℕ, List, [], ◌∷◌}
 use Rattle.rules.specs.Table.{or_else}
 use Rattle.confirm.specs.Answers as confirm_answers
 use Rattle.confirm.specs.declared.ConfirmMade.{ConfirmMade}
-use Rattle.confirm.specs.declared.ConfirmStep.{ConfirmStep}
+use Rattle.confirm.specs.Answers.{ConfirmStep}
 use Rattle.vote.specs.Answers as vote_answers
 use Rattle.vote.specs.declared.VoteMade.{VoteMade}
-use Rattle.vote.specs.declared.VoteStep.{VoteStep}
+use Rattle.vote.specs.Answers.{VoteStep}
 use Rattle.tuple.specs.Answers as tuple_answers
 use Rattle.tuple.specs.declared.TupleMade.{TupleMade}
 use Rattle.tuple.specs.declared.TupleStep.{TupleStep}
