@@ -13,7 +13,7 @@ use borrow.Author.Tests.{ltb-true, ltb-false, leb-true, leb-false, lt-ltb, le-lt
 use Rattle.std.specs.Prelude.{if◌then◌else◌}
 use Rattle.rules.specs.Limits.{bad_count, bad_width, outside}
 use Rattle.rules.specs.declared.refusal.Refusal.{Refusal}
-use Rattle.rules.specs.Refusal.{refusal_of}
+use Rattle.rules.specs.Refusal.{number, refusal_of}
 use Rattle.rules.specs.Table.{Row, ◌when◌, first, answer, or_else}
 use Rattle.rules.specs.Refusals.{step_rows, counted, admits}
 use Rattle.rules.proofs.Width.{outside_or}
@@ -93,6 +93,17 @@ module _ (m : Bool) (n : ℕ) (o d : Bool) where
   -- the number of a step that is not taken
   pub refused_number : eqb (first (step_rows m n o d)) 0 ≡ false → first (step_rows m n o d) ≡ first (step_rows m n o true)
   refused_number e = rw (e, or-true) at (one_reason_more true)
+
+-- and it is a refusal's own
+own_of : (m w o : Bool) → number (refusal_of (first (four_rows m w o true))) ≡ first (four_rows m w o true)
+unfolding first refusal_of
+own_of true w o = refl
+own_of false true o = refl
+own_of false false true = refl
+own_of false false false = refl
+
+pub step_own : (m : Bool) (n : ℕ) (o : Bool) → number (refusal_of (first (step_rows m n o true))) ≡ first (step_rows m n o true)
+step_own m n o = own_of m (bad_width n) o
 
 -- so code that has the sample's words in one, and takes the last row as true, refuses as the table does
 pub not_taken_lem :

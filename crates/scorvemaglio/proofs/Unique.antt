@@ -6,11 +6,12 @@ use mathlib.Core.List.{List}
 use mathlib.Core.Bool.{not}
 use contract.Lifetimes.{Lfts}
 use lib.Dec.{eqb}
+use Rattle.rules.specs.Refusal.{number_in}
 use Rattle.rules.specs.Limits.{default_word}
 use Rattle.rules.specs.Promise.{Fixes}
 use Rattle.rules.proofs.Promise.{fixes}
 use Rattle.trace.specs.Answers.{run_number, run_sample}
-use Rattle.trace.specs.declared.RunAnswer.{RunAnswer}
+use Rattle.trace.specs.Answers.{RunResult}
 use Rattle.confirm.specs.Confirm as confirm
 use Rattle.confirm.proofs.Unique.{ran as confirm_ran}
 use Rattle.vote.specs.Vote as vote
@@ -65,22 +66,22 @@ steps_says :
 steps_says p = cc
 
 -- a run: what the room's own determines, its answer as two numbers beside three slices, or four
-abbrev told_three : RunAnswer × List ℕ × List ℕ × List ℕ → ℕ × ℕ × List ℕ × List ℕ × List ℕ
+abbrev told_three : RunResult × List ℕ × List ℕ × List ℕ → ℕ × ℕ × List ℕ × List ℕ × List ℕ
 told_three (r, one, two, three) = (run_number r, run_sample r, one, two, three)
 
-abbrev told_four : RunAnswer × List ℕ × List ℕ × List ℕ × List ℕ → ℕ × ℕ × List ℕ × List ℕ × List ℕ × List ℕ
+abbrev told_four : RunResult × List ℕ × List ℕ × List ℕ × List ℕ → ℕ × ℕ × List ℕ × List ℕ × List ℕ × List ℕ
 told_four (r, one, two, three, four) = (run_number r, run_sample r, one, two, three, four)
 
 pub confirm_from_word_unique :
     (κs : Lfts 1)
     → Fixes {O = Made} (confirm-from-word.Learnt κs) (λ z e. (z, e.0.now))
-    (λ a. let m = confirm.made_of a.1.0 a.1.1.0 a.1.1.1.0 in made m.refusal (confirm_numbers m.state) a.0.now)
+    (λ a. let m = confirm.made_of a.1.0 a.1.1.0 a.1.1.1.0 in made (number_in m.refusal) (confirm_numbers m.state) a.0.now)
 confirm_from_word_unique κs = fixes (λ a z e p. makes_says p)
 
 pub confirm_new_unique :
     (κs : Lfts 1)
     → Fixes {O = Made} (confirm-new.Learnt κs) (λ z e. (z, e.0.now))
-    (λ a. let m = confirm.made_of a.1.0 a.1.1.0 (default_word a.1.0) in made m.refusal (confirm_numbers m.state) a.0.now)
+    (λ a. let m = confirm.made_of a.1.0 a.1.1.0 (default_word a.1.0) in made (number_in m.refusal) (confirm_numbers m.state) a.0.now)
 confirm_new_unique κs = fixes (λ a z e p. makes_says p)
 
 pub confirm_step_unique :
@@ -103,13 +104,13 @@ confirm_run_unique κs = fixes (λ a z e p. let r = p.ran in let q = p.told in c
 pub vote_from_word_unique :
     (κs : Lfts 1)
     → Fixes {O = Made} (vote-from-word.Learnt κs) (λ z e. (z, e.0.now))
-    (λ a. let m = vote.made_of a.1.0 a.1.1.0 a.1.1.1.0 in made m.refusal (vote_numbers m.state) a.0.now)
+    (λ a. let m = vote.made_of a.1.0 a.1.1.0 a.1.1.1.0 in made (number_in m.refusal) (vote_numbers m.state) a.0.now)
 vote_from_word_unique κs = fixes (λ a z e p. makes_says p)
 
 pub vote_new_unique :
     (κs : Lfts 1)
     → Fixes {O = Made} (vote-new.Learnt κs) (λ z e. (z, e.0.now))
-    (λ a. let m = vote.made_of a.1.0 a.1.1.0 (default_word a.1.0) in made m.refusal (vote_numbers m.state) a.0.now)
+    (λ a. let m = vote.made_of a.1.0 a.1.1.0 (default_word a.1.0) in made (number_in m.refusal) (vote_numbers m.state) a.0.now)
 vote_new_unique κs = fixes (λ a z e p. makes_says p)
 
 pub vote_step_unique :
@@ -133,13 +134,13 @@ vote_run_unique κs = fixes (λ a z e p. let r = p.ran in let q = p.told in cc)
 pub tuple_from_word_unique :
     (κs : Lfts 1)
     → Fixes {O = Made} (tuple-from-word.Learnt κs) (λ z e. (z, e.0.now))
-    (λ a. let m = tuple.made_of a.1.0 a.1.1.0 a.1.1.1.0 a.1.1.1.1.0 in made m.refusal (tuple_numbers m.state) a.0.now)
+    (λ a. let m = tuple.made_of a.1.0 a.1.1.0 a.1.1.1.0 a.1.1.1.1.0 in made (number_in m.refusal) (tuple_numbers m.state) a.0.now)
 tuple_from_word_unique κs = fixes (λ a z e p. makes_says p)
 
 pub tuple_new_unique :
     (κs : Lfts 1)
     → Fixes {O = Made} (tuple-new.Learnt κs) (λ z e. (z, e.0.now))
-    (λ a. let m = tuple.made_of a.1.0 a.1.1.0 a.1.1.1.0 (default_word a.1.0) in made m.refusal (tuple_numbers m.state) a.0.now)
+    (λ a. let m = tuple.made_of a.1.0 a.1.1.0 a.1.1.1.0 (default_word a.1.0) in made (number_in m.refusal) (tuple_numbers m.state) a.0.now)
 tuple_new_unique κs = fixes (λ a z e p. makes_says p)
 
 pub tuple_step_unique :
@@ -164,13 +165,13 @@ tuple_run_unique κs = fixes (λ a z e p. let r = p.ran in let q = p.told in cc)
 pub reserve_from_word_unique :
     (κs : Lfts 1)
     → Fixes {O = Made} (reserve-from-word.Learnt κs) (λ z e. (z, e.0.now))
-    (λ a. let m = reserve.made_of a.1.0 a.1.1.0 a.1.1.1.0 in made m.refusal (reserve_numbers m.state) a.0.now)
+    (λ a. let m = reserve.made_of a.1.0 a.1.1.0 a.1.1.1.0 in made (number_in m.refusal) (reserve_numbers m.state) a.0.now)
 reserve_from_word_unique κs = fixes (λ a z e p. makes_says p)
 
 pub reserve_new_unique :
     (κs : Lfts 1)
     → Fixes {O = Made} (reserve-new.Learnt κs) (λ z e. (z, e.0.now))
-    (λ a. let m = reserve.made_of a.1.0 a.1.1.0 (default_word a.1.0) in made m.refusal (reserve_numbers m.state) a.0.now)
+    (λ a. let m = reserve.made_of a.1.0 a.1.1.0 (default_word a.1.0) in made (number_in m.refusal) (reserve_numbers m.state) a.0.now)
 reserve_new_unique κs = fixes (λ a z e p. makes_says p)
 
 pub reserve_step_unique :

@@ -4,6 +4,7 @@ use mathlib.Core.List.{List, [], ◌∷◌, ◌++◌}
 use contract.Lifetimes.{Lfts}
 use lib.Ieee.{Float}
 use lib.ListN.{length, drop}
+use Rattle.rules.specs.Refusal.{number_in}
 use Rattle.std.specs.Prelude.{if◌then◌else◌}
 use Rattle.rules.specs.Promise.{Fixes}
 use Rattle.rules.proofs.Promise.{fixes}
@@ -26,7 +27,7 @@ pub sizing_of_unique :
     → Fixes {O = Made} (sizing-of.Learnt κs) (λ z e. (z, e.1.1.1.1.0.now))
     (λ a.
     let x = sizing_of a.0 a.1.0 a.1.1.0 a.1.1.1.0 in
-    made x.refusal (x.need ∷ x.votes ∷ x.age ∷ x.quiet ∷ []) a.1.1.1.1.0.now)
+    made (number_in x.refusal) (x.need ∷ x.votes ∷ x.age ∷ x.quiet ∷ []) a.1.1.1.1.0.now)
 sizing_of_unique κs = fixes (λ a z e p. makes_says p)
 
 -- the number, the reading and the mark

@@ -1,5 +1,6 @@
 -- What the sizing, the threshold vote, the reader and the listing promise for C.
 use Rattle.std.specs.Prelude.{ℕ, ◌≡◌, List, [], ◌∷◌, Float, length, get_or}
+use Rattle.rules.specs.Refusal.{number_in}
 use Rattle.std.specs.Float.{nan}
 use Rattle.sizing.specs.declared.Sizing.{Sizing}
 use Rattle.threshold.specs.Threshold.{number_of}
@@ -17,7 +18,7 @@ use Rattle.scorvemaglio.specs.Lent.{Makes, Tells, unless_refused}
 
 -- the sizing writes the confirmation's count, the votes', the age bound and the quiet gap
 abbrev pub MakesSizing : Sizing → List ℕ → ℕ → List ℕ → Type 0
-MakesSizing x = Makes x.refusal (x.need ∷ x.votes ∷ x.age ∷ x.quiet ∷ [])
+MakesSizing x = Makes (number_in x.refusal) (x.need ∷ x.votes ∷ x.age ∷ x.quiet ∷ [])
 
 -- the readings as C has them: four floats
 abbrev pub readings_of : List Float → Readings
@@ -27,12 +28,12 @@ readings_of s = record { x1 = get_or s 0 nan; x2 = get_or s 1 nan; x3 = get_or s
 abbrev pub reading_after : Threshold → Float → Float
 reading_after (Agreed m) lent = m
 reading_after Alarm lent = lent
-reading_after (Refused k) lent = lent
+reading_after (Refused refusal) lent = lent
 
 abbrev pub mark_after : Threshold → ℕ → ℕ
 mark_after (Agreed m) lent = 0
 mark_after Alarm lent = 2
-mark_after (Refused k) lent = lent
+mark_after (Refused refusal) lent = lent
 
 pub record Votes (x : Threshold) (agreed : Float) (mark : ℕ) (r : ℕ) (agreed' : Float) (mark' : ℕ) : Type 0 where
   pub answered : r ≡ number_of x

@@ -1,32 +1,34 @@
 -- What the voters' constructors and steps promise for C: the same definitions, their states and answers as numbers.
 use Rattle.std.specs.Prelude.{ℕ, List, [], ◌∷◌}
+use Rattle.rules.specs.declared.answers.Made.{Made}
+use Rattle.rules.specs.Refusal.{number_in}
 use Rattle.rules.specs.Table.{or_else}
 use Rattle.confirm.specs.Answers as confirm_answers
-use Rattle.confirm.specs.declared.ConfirmMade.{ConfirmMade}
+use Rattle.confirm.specs.declared.Confirm.{Confirm}
 use Rattle.confirm.specs.Answers.{ConfirmStep}
 use Rattle.vote.specs.Answers as vote_answers
-use Rattle.vote.specs.declared.VoteMade.{VoteMade}
+use Rattle.vote.specs.declared.Vote.{Vote}
 use Rattle.vote.specs.Answers.{VoteStep}
 use Rattle.tuple.specs.Answers as tuple_answers
-use Rattle.tuple.specs.declared.TupleMade.{TupleMade}
+use Rattle.tuple.specs.declared.Tuple.{Tuple}
 use Rattle.tuple.specs.declared.TupleStep.{TupleStep}
-use Rattle.reserve.specs.declared.ReserveMade.{ReserveMade}
+use Rattle.reserve.specs.declared.Reserve.{Reserve}
 use Rattle.reserve.specs.declared.ReserveStep.{ReserveStep}
 use Rattle.scorvemaglio.specs.Lent.{Makes, Steps}
 use Rattle.scorvemaglio.specs.States.{confirm_numbers, vote_numbers, tuple_numbers, reserve_numbers, no_phase}
 
 -- a constructor writes the state that it made
-abbrev pub MakesConfirm : ConfirmMade → List ℕ → ℕ → List ℕ → Type 0
-MakesConfirm m = Makes m.refusal (confirm_numbers m.state)
+abbrev pub MakesConfirm : Made Confirm → List ℕ → ℕ → List ℕ → Type 0
+MakesConfirm m = Makes (number_in m.refusal) (confirm_numbers m.state)
 
-abbrev pub MakesVote : VoteMade → List ℕ → ℕ → List ℕ → Type 0
-MakesVote m = Makes m.refusal (vote_numbers m.state)
+abbrev pub MakesVote : Made Vote → List ℕ → ℕ → List ℕ → Type 0
+MakesVote m = Makes (number_in m.refusal) (vote_numbers m.state)
 
-abbrev pub MakesTuple : TupleMade → List ℕ → ℕ → List ℕ → Type 0
-MakesTuple m = Makes m.refusal (tuple_numbers m.state)
+abbrev pub MakesTuple : Made Tuple → List ℕ → ℕ → List ℕ → Type 0
+MakesTuple m = Makes (number_in m.refusal) (tuple_numbers m.state)
 
-abbrev pub MakesReserve : ReserveMade → List ℕ → ℕ → List ℕ → Type 0
-MakesReserve m = Makes m.refusal (reserve_numbers m.state)
+abbrev pub MakesReserve : Made Reserve → List ℕ → ℕ → List ℕ → Type 0
+MakesReserve m = Makes (number_in m.refusal) (reserve_numbers m.state)
 
 -- what a step shows: the word, the mark, the tuple vote's mask or the pair voted on, and of a vote, last, what T-09 has it tell
 abbrev pub confirm_shown : ConfirmStep → List ℕ

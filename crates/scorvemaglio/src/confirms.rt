@@ -7,8 +7,8 @@ ghost use Rattle.scorvemaglio.specs.Runs.{RunsConfirm};
 ghost use Rattle.scorvemaglio.specs.States.{confirm_of, confirm_numbers};
 ghost use Rattle.scorvemaglio.specs.Voters.{MakesConfirm, StepsConfirm, confirm_shown};
 
-use crate::lent::{Made, State, Taken, put_made, put_step};
-use confirm::{Confirm, ConfirmMade, ConfirmStep};
+use crate::lent::{State, Taken, put_made, put_step};
+use confirm::{Confirm, ConfirmStep};
 
 impl State<5> for Confirm {
     ghost of = { confirm_of };
@@ -28,20 +28,6 @@ impl State<5> for Confirm {
 
     fn numbers(self) -> [u32; 5] {
         [self.n, self.need, self.input, self.output, self.count]
-    }
-}
-
-impl Made<5> for ConfirmMade {
-    ghost refusal = { λ m. m.refusal };
-
-    ghost made = { λ m. confirm_numbers m.state };
-
-    fn refusal(self) -> u32 {
-        self.refusal
-    }
-
-    fn made(self) -> [u32; 5] {
-        self.state.numbers()
     }
 }
 

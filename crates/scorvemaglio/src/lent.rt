@@ -1,6 +1,9 @@
 // What the boundary does alike for each voter: its state is numbers, and where nothing is refused they are written.
 ghost use Rattle.std.specs.Prelude.{◌≡◌, ℕ, List};
+ghost use Rattle.rules.specs.Refusal.{number_in};
 ghost use Rattle.scorvemaglio.specs.Lent.{Makes, Steps};
+
+use rules::Made;
 
 // A state as C has it: numbers, in the order of the header's fields.
 pub(crate) trait State<const K: usize>: Copy {
@@ -13,19 +16,6 @@ pub(crate) trait State<const K: usize>: Copy {
 
     fn numbers(self) -> [u32; K]
         ensures { result ≡ numbers self };
-}
-
-// What a constructor answers: the refusal's number, 0 for none, and the numbers of the state that it made.
-pub(crate) trait Made<const K: usize>: Copy {
-    ghost refusal: { Self → ℕ };
-
-    ghost made: { Self → List ℕ };
-
-    fn refusal(self) -> u32
-        ensures { result ≡ refusal self };
-
-    fn made(self) -> [u32; K]
-        ensures { result ≡ made self };
 }
 
 // What a step answers: the refusal's number, 0 for none, the numbers of the state that it leaves, and what it shows.
@@ -47,14 +37,13 @@ pub(crate) trait Taken<const K: usize, const A: usize>: Copy {
 }
 
 // Where a state was made, it is written.
-pub(crate) fn put_made<M: Made<K>, const K: usize>(state: &mut [u32; K], made: M) -> u32
-    ensures { Makes (M.refusal made) (M.made made) state.old result state.new }
+pub(crate) fn put_made<S: State<K>, const K: usize>(state: &mut [u32; K], made: Made<S>) -> u32
+    ensures { Makes (number_in made.refusal) (S.numbers made.state) state.old result state.new }
 {
-    let refusal = made.refusal();
-    if refusal != 0 {
-        return refusal;
+    if let Some(refusal) = made.refusal {
+        return refusal.into();
     }
-    *state = made.made();
+    *state = made.state.numbers();
     0
 }
 

@@ -17,6 +17,6 @@ use trace::RunAnswer;
 pub(crate) fn tell(sample: &mut u32, answer: RunAnswer) -> u32
     ensures { Tells answer result sample.new }
 {
-    *sample = answer.sample();
-    answer.number()
+    *sample = trace::sample(answer);
+    trace::number(answer)
 }

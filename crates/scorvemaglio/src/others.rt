@@ -21,8 +21,8 @@ pub extern "C" fn scorve_sizing_of(
     ensures { MakesSizing (sizing_of n least_gap greatest_gap delay) sizing.old result sizing.new }
 {
     let sized = Sizing::of(n, least_gap, greatest_gap, delay);
-    if sized.refusal != 0 {
-        return sized.refusal;
+    if let Some(refusal) = sized.refusal {
+        return refusal.into();
     }
     *sizing = [
         u64::from(sized.need),
@@ -47,7 +47,7 @@ fn put_vote(agreed: &mut f64, mark: &mut u32, answer: Threshold) -> u32
             *mark = 2;
             0
         }
-        Threshold::Refused(k) => k,
+        Threshold::Refused(refusal) => refusal.into(),
     }
 }
 

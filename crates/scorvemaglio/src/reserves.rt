@@ -6,8 +6,8 @@ ghost use Rattle.scorvemaglio.specs.Runs.{RunsReserve};
 ghost use Rattle.scorvemaglio.specs.States.{phase_of, phase_number, reserve_of, reserve_numbers};
 ghost use Rattle.scorvemaglio.specs.Voters.{MakesReserve, StepsReserve, reserve_kept};
 
-use crate::lent::{Made, State, put_made};
-use reserve::{Phase, Reserve, ReserveMade, ReserveStep};
+use crate::lent::{State, put_made};
+use reserve::{Phase, Reserve, ReserveStep};
 use vote::Vote;
 
 fn phase_of(p: u32) -> Phase
@@ -57,20 +57,6 @@ impl State<5> for Reserve {
             vote.word,
             vote.count,
         ]
-    }
-}
-
-impl Made<5> for ReserveMade {
-    ghost refusal = { λ m. m.refusal };
-
-    ghost made = { λ m. reserve_numbers m.state };
-
-    fn refusal(self) -> u32 {
-        self.refusal
-    }
-
-    fn made(self) -> [u32; 5] {
-        self.state.numbers()
     }
 }
 
@@ -127,7 +113,7 @@ pub extern "C" fn scorve_reserve_step(
     let admitted = rules::admits(counted, vote.n, sample | vote.word);
     let refused = (state[0] > 2) | !admitted;
     if refused {
-        return rules::step_number(rules::bad_count(vote.need), vote.n, sample);
+        return rules::step_refusal(rules::bad_count(vote.need), vote.n, sample).into();
     }
     // Nothing is refused, so the clauses answer as the step does.
     put_step(state, answer, s.clauses(a, b, c, d));

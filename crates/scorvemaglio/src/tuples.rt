@@ -8,9 +8,9 @@ ghost use Rattle.scorvemaglio.specs.Runs.{RunsTuple};
 ghost use Rattle.scorvemaglio.specs.States.{tuple_of, tuple_numbers};
 ghost use Rattle.scorvemaglio.specs.Voters.{MakesTuple, StepsTuple, tuple_shown};
 
-use crate::lent::{Made, State, Taken, put_made, put_step};
+use crate::lent::{State, Taken, put_made, put_step};
 use confirm::Confirm;
-use tuple::{Tuple, TupleMade, TupleStep};
+use tuple::{Tuple, TupleStep};
 
 // The numbers of a state before its counts, and all of them.
 const COUNTS_AT: usize = 7;
@@ -54,20 +54,6 @@ impl State<NUMBERS> for Tuple {
         ]);
         s[COUNTS_AT..].copy_from_slice(&self.counts);
         s
-    }
-}
-
-impl Made<NUMBERS> for TupleMade {
-    ghost refusal = { λ m. m.refusal };
-
-    ghost made = { λ m. tuple_numbers m.state };
-
-    fn refusal(self) -> u32 {
-        self.refusal
-    }
-
-    fn made(self) -> [u32; NUMBERS] {
-        self.state.numbers()
     }
 }
 

@@ -7,8 +7,8 @@ ghost use Rattle.scorvemaglio.specs.Runs.{RunsVote};
 ghost use Rattle.scorvemaglio.specs.States.{vote_of, vote_numbers};
 ghost use Rattle.scorvemaglio.specs.Voters.{MakesVote, StepsVote, vote_shown};
 
-use crate::lent::{Made, State, Taken, put_made, put_step};
-use vote::{Vote, VoteMade, VoteStep};
+use crate::lent::{State, Taken, put_made, put_step};
+use vote::{Vote, VoteStep};
 
 impl State<4> for Vote {
     ghost of = { vote_of };
@@ -27,20 +27,6 @@ impl State<4> for Vote {
 
     fn numbers(self) -> [u32; 4] {
         [self.n, self.need, self.word, self.count]
-    }
-}
-
-impl Made<4> for VoteMade {
-    ghost refusal = { λ m. m.refusal };
-
-    ghost made = { λ m. vote_numbers m.state };
-
-    fn refusal(self) -> u32 {
-        self.refusal
-    }
-
-    fn made(self) -> [u32; 4] {
-        self.state.numbers()
     }
 }
 

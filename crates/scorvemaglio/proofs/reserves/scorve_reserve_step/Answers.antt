@@ -5,6 +5,7 @@ use lib.Bits.{bit_or}
 use Prim.Native.Nat.{ℕ}
 use mathlib.Core.List.{List}
 use Rattle.rules.specs.Refusals.{admits, counted}
+use Rattle.rules.proofs.OneTest.{step_own}
 use Rattle.reserve.specs.declared.Reserve.{Reserve}
 use Rattle.reserve.proofs.OneTest.{union, admitted}
 use Rattle.scorvemaglio.specs.States.{reserve_of}
@@ -27,7 +28,7 @@ returns-then-refused c =
     let x = c.args in
     let one = found x.state.now x.a x.b x.c x.d c.admits-admitted.ensures c.counted-counted.ensures c.of-s.ensures in
     let r = refused_as x.state.now x.a x.b x.c x.d (rw (← one) c.if-refused.true) in
-    rw (c.step_number.ensures, c.bad_count.ensures, c.of-s.ensures) (not_taken_lem r.0 r.1)
+    rw (c.into.ensures, c.step_refusal.ensures, c.bad_count.ensures, c.of-s.ensures, step_own) (not_taken_lem r.0 r.1)
 
 pub returns : goal.returns
 returns c =
