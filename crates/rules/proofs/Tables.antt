@@ -14,7 +14,7 @@ use Rattle.rules.specs.Choose.{choose◌then◌else◌}
 use Rattle.rules.specs.declared.refusal.Refusal.{Refusal}
 use Rattle.rules.specs.declared.refusal.Refusal.TheVariants.{Count, Width, TooLong, Lengths, Word, Sample, State, Times, TooMany, Reading, NotRecording}
 use Rattle.rules.specs.Refusal.{number, refusal_of, is_refusal, told}
-use Rattle.rules.specs.Table.{Row, ◌when◌, first, answer, numbered, known, rising, has, Given, LowestOf, or_else, through}
+use Rattle.rules.specs.Table.{Row, ◌when◌, first, answer, numbered, known, rising, has, Given, LowestOf, or_else}
 
 pub and_both : (a b : Bool) → a && b ≡ true → (a ≡ true) × (b ≡ true)
 and_both true b e = (refl, e)
@@ -222,23 +222,6 @@ pub exactly_when :
     → (k : ℕ) → (number_of (answer (first rows) refuse work) ≡ k) ↔ Given k rows
 exactly_when number_of rows refuse work u given none k =
     rw (own_number number_of rows refuse work u given none) (exactly rows (known_numbered rows u) k)
-
--- code that goes through the rows, line by line, finds the table's number
-kept : (r : ℕ) (rows : List Row) → eqb r 0 ≡ false → through r rows ≡ r
-unfolding through
-kept r [] e = refl
-kept r (k when b ∷ rows) e = rw e (kept r rows e)
-
-in_order : (rows : List Row) → numbered rows ≡ true → through 0 rows ≡ first rows
-unfolding first through numbered
-in_order [] u = refl
-in_order (k when true ∷ rows) u =
-    let h = ltb-true 0 k (and_both (ltb 0 k) _ u).0 in
-    kept k rows (ne_eqb k 0 (λ e. omega arith))
-in_order (k when false ∷ rows) u = in_order rows (and_both (ltb 0 k) _ u).1
-
-pub by_rows : (rows : List Row) {r : ℕ} → numbered rows ≡ true → r ≡ through 0 rows → r ≡ first rows
-by_rows rows u e = e ∙ in_order rows u
 
 -- a row whose test is false changes nothing
 pub stays : (r k : ℕ) → or_else r k false ≡ r

@@ -56,11 +56,7 @@ told k = if eqb k 0 then Ok tt else Err (refusal_of k)
 abbrev pub row : Refusal → Bool → Result (Unit {0}) Refusal
 row refusal bad = if bad then Err refusal else Ok tt
 
--- the number of a refusal, if there is one, and of an answer that may be one; 0 is none
+-- the number of a refusal, if there is one; 0 is none
 abbrev pub number_in : Option Refusal → ℕ
 number_in None = 0
 number_in (Some refusal) = number refusal
-
-abbrev pub number_told : {A : Type 0} → Result A Refusal → ℕ
-number_told (Ok x) = 0
-number_told (Err refusal) = number refusal

@@ -54,10 +54,6 @@ Given k (j when b ∷ rows) =
 abbrev pub LowestOf : List Row → Type 0
 LowestOf rows = (j : ℕ) → Memᴰ (j when true) rows → (0 < first rows) × (first rows ≤ j)
 
--- a table gone through row by row, as code does it: what is refused already stays
+-- one row more below a table: what is refused already stays
 abbrev pub or_else : ℕ → ℕ → Bool → ℕ
 or_else refusal number bad = if eqb refusal 0 then (if bad then number else 0) else refusal
-
-unfoldable pub through : ℕ → List Row → ℕ
-through refusal [] = refusal
-through refusal (k when b ∷ rows) = through (or_else refusal k b) rows

@@ -1,7 +1,8 @@
 -- A row is an example as document 01 writes it; `Holds` says what it claims of the definitions that the contracts cite.
-use Rattle.std.specs.Prelude.{ℕ, ◌≡◌, List, [], ◌∷◌, ◌++◌, map, Float}
+use Rattle.std.specs.Prelude.{ℕ, ◌≡◌, List, [], ◌∷◌, ◌++◌, map, Float, None}
 use Prim.Native.String.{String}
-use Rattle.trace.specs.declared.RunAnswer.TheVariants.{Done}
+use Rattle.rules.specs.Refusal.{refusal_of}
+use Rattle.trace.specs.Answers.{done}
 use Rattle.sizing.specs.Sizing.{sizing_of, not_sized}
 use Rattle.threshold.specs.Threshold.{threshold_of}
 use Rattle.vote.specs.Vote as vote
@@ -57,16 +58,16 @@ pub data Row : Type 0 where
 -- a sizing is claimed field by field; a run is lent slices of the right lengths, and what they hold before does not matter: the
 -- marks stand for the slice of T-09, too
 abbrev pub Holds : Row → Type 0
-Holds (sizing-n n Tm tm TM tM D d gives-N need age: old gap: quiet) = let z = sizing_of n tm tM d in (z.refusal ≡ 0) × (z.need ≡ need) × (z.age ≡ old) × (z.quiet ≡ quiet)
+Holds (sizing-n n Tm tm TM tM D d gives-N need age: old gap: quiet) = let z = sizing_of n tm tM d in (z.refusal ≡ None) × (z.need ≡ need) × (z.age ≡ old) × (z.quiet ≡ quiet)
 Holds (count-n n Tm tm TM tM D d is need) = (sizing_of n tm tM d).need ≡ need
-Holds (sizing-n n Tm tm TM tM D d refused number) = sizing_of n tm tM d ≡ not_sized number
+Holds (sizing-n n Tm tm TM tM D d refused number) = sizing_of n tm tM d ≡ not_sized (refusal_of number)
 Holds (recording s lists lines) = text_of s ≡ as_text lines
 Holds (vote-n n N need from word lists lines) =
-    (vote_run.answer_of n need word (column (λ x. x.0) lines) (column (λ x. x.1) lines) (map word_in lines) (map mark_in lines) (map mark_in lines) ≡ Done)
+    (vote_run.answer_of n need word (column (λ x. x.0) lines) (column (λ x. x.1) lines) (map word_in lines) (map mark_in lines) (map mark_in lines) ≡ done)
     × (map vote_run.shown_word (vote_run.steps (vote.fresh n need word) (map seen_in lines)) ≡ map word_in lines)
     × (map vote_run.shown_mark (vote_run.steps (vote.fresh n need word) (map seen_in lines)) ≡ map mark_in lines)
 Holds (reserve-n n N need from word lists lines) =
-    (reserve_run.answer_of n need word (column (λ x. x.0.0) lines) (column (λ x. x.0.1) lines) (column (λ x. x.1.0) lines) (column (λ x. x.1.1) lines) (map word_in lines) (map mark_in lines) (map mark_in lines) ≡ Done)
+    (reserve_run.answer_of n need word (column (λ x. x.0.0) lines) (column (λ x. x.0.1) lines) (column (λ x. x.1.0) lines) (column (λ x. x.1.1) lines) (map word_in lines) (map mark_in lines) (map mark_in lines) ≡ done)
     × (map reserve_run.shown_word (reserve_run.steps (reserve.fresh n need word) (map seen_in lines)) ≡ map word_in lines)
     × (map reserve_run.shown_mark (reserve_run.steps (reserve.fresh n need word) (map seen_in lines)) ≡ map mark_in lines)
 Holds (readings x1 and x2 and x3 tolerance t agreed m) = threshold_of (record { x1 = x1; x2 = x2; x3 = x3; tolerance = t }) ≡ Agreed m

@@ -1,12 +1,11 @@
 -- A loop fills a lent slice: what stands before i is written, and the samples from i on give the rest.
-use mathlib.Core.Path.{◌≡◌, sym, ap, ◌∙◌}
+use mathlib.Core.Path.{◌≡◌, sym, ◌∙◌}
 use mathlib.Core.List.{List, ◌++◌, map, append_assoc, append-nil, map-append}
 use Prim.Native.Nat.{ℕ, ◌+◌, ◌-◌, ◌<◌, ◌≤◌}
 use native.Mathlib.Numerals.{add-one}
 use native.Mathlib.Omega.{arith}
-use lib.ListN.{length, get_or, take, drop, set, replicate, length-append, length-map, length-drop, length-set, drop_of_length-le, take-append-drop}
+use lib.ListN.{length, get_or, take, drop, set, length-append, length-map, length-drop, length-set, drop_of_length-le, take-append-drop}
 use lib.Seq.{drop-cons, take-suc-set, take_all, take_at, length-take-le}
-use borrow.Author.Fill.{fill_more}
 use borrow.Rule.Slice.PartMut.{put_mid, Post-is, same_len_mid, mid_len}
 use Rattle.trace.specs.Trace.{trace, left}
 use Rattle.trace.proofs.Steps.{trace_append, trace_length}
@@ -64,16 +63,3 @@ module _ {S X T : Type 0} (step : S → X → T) (next : T → S) (s₀ : S) (xs
   pub gone : length xs ≤ i → Goes step next s₀ xs i s → s ≡ left step next s₀ xs
   unfolding left
   gone h e = simp (drop_of_length-le xs h) at e
-
--- a loop that stores one value at every place
-abbrev pub Stored : ℕ → List ℕ → List ℕ → ℕ → Type 0
-Stored v l₀ l i = (i ≤ length l₀) × (length l ≡ length l₀) × (l ≡ replicate i v ++ drop i l₀)
-
-module _ (v : ℕ) (l₀ l : List ℕ) (i : ℕ) where
-  pub stored_turn : i < length l → Stored v l₀ l i → Stored v l₀ (set l i v) (i + 1)
-  stored_turn h (up, long, so_far) = (omega arith, length-set l i v ∙ long, ap (λ (s : List ℕ). set s i v) so_far ∙ fill_more i v l₀ (omega arith))
-
-  pub stored : length l ≤ i → Stored v l₀ l i → l ≡ replicate (length l₀) v
-  stored h (up, long, so_far) =
-      let all : i ≡ length l₀ = omega arith in
-      so_far ∙ rw (all, drop_of_length-le l₀ {i = length l₀} (omega arith), append-nil)

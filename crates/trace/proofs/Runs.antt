@@ -7,7 +7,7 @@ use Prim.Native.Nat.{ℕ, zero, suc, ◌^◌, ◌<◌, ◌≤◌}
 use native.Mathlib.Omega.{arith}
 use lib.ListN.{length, take}
 use borrow.Author.Tests.{ne_eqb, ltb-true}
-use Rattle.std.specs.Prelude.{if◌then◌else◌, position, Option, Some, None, MatchOption, Ok, Err}
+use Rattle.std.specs.Prelude.{if◌then◌else◌, position, Option, Some, None, MatchOption, Err}
 use Rattle.rules.specs.declared.refusal.Refusal.{Refusal}
 use Rattle.rules.specs.declared.refusal.Refusal.TheVariants.{Sample}
 use Rattle.rules.specs.Refusal.{number, refusal_of, is_refusal, told}

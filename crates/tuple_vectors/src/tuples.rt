@@ -1,7 +1,7 @@
 // The calls of the tuple vote.
 use lines::place::PLACES;
 use lines::{input, output, runs, states};
-use tuple::{Tuple, TupleAnswer, TupleMade};
+use tuple::{Tuple, TupleAnswer};
 
 // STATE: the voters' count, the confirmation's, the agreed signals as one word, 32 counts.
 fn read_state() -> Tuple {
@@ -18,11 +18,6 @@ fn print_state(s: Tuple) {
     states::print_confirm(s.confirm);
     output::next(s.agreed);
     output::numbers(&s.counts);
-}
-
-fn print_made(made: TupleMade) {
-    output::first(made.refusal);
-    print_state(made.state);
 }
 
 fn print_answer(answer: TupleAnswer) {
@@ -43,12 +38,12 @@ fn step() {
 
 fn new() {
     let [n, votes, need] = input::numbers::<3>();
-    print_made(Tuple::new(n, votes, need));
+    states::print_made(Tuple::new(n, votes, need), print_state);
 }
 
 fn from_word() {
     let [n, votes, need, word] = input::numbers::<4>();
-    print_made(Tuple::from_word(n, votes, need, word));
+    states::print_made(Tuple::from_word(n, votes, need, word), print_state);
 }
 
 fn run() {
