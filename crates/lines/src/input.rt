@@ -24,7 +24,9 @@ fn byte() -> Option<u8> {
 }
 
 // The bytes up to the next space or line end, as far as there is room.
-pub fn name(into: &mut [u8]) -> &[u8] {
+pub fn name(into: &mut [u8]) -> &[u8]
+    ensures { length result.now ≤ length into.old }
+{
     for (i, place) in into.iter_mut().enumerate() {
         match byte() {
             Some(b) if b > b' ' => *place = b,
@@ -76,7 +78,9 @@ fn put_run<T: Place>(into: &mut [T], value: T, times: u32) -> usize
 }
 
 // LIST: how many there are, then each as `v` or `v*t`. The places filled.
-pub fn list<T: Place>(into: &mut [T]) -> &mut [T] {
+pub fn list<T: Place>(into: &mut [T]) -> &mut [T]
+    ensures { length result.now ≤ length into.old }
+{
     let count = number();
     let mut at = 0;
     for _ in 0..count {
@@ -91,7 +95,9 @@ pub fn list<T: Place>(into: &mut [T]) -> &mut [T] {
 }
 
 // LENT: the length of a slice and what each place holds.
-pub fn lent<T: Place>(into: &mut [T]) -> &mut [T] {
+pub fn lent<T: Place>(into: &mut [T]) -> &mut [T]
+    ensures { length result.now ≤ length into.old }
+{
     let len = number();
     let value = T::cut(wide_number());
     let end = put_run(into, value, len);

@@ -13,7 +13,7 @@ use Rattle.std.specs.Result.{IsErrAnd}
 use Rattle.rules.specs.Choose.{choose◌then◌else◌}
 use Rattle.rules.specs.declared.refusal.Refusal.{Refusal}
 use Rattle.rules.specs.declared.refusal.Refusal.TheVariants.{Count, Width, TooLong, Lengths, Word, Sample, State, Times, TooMany, Reading, NotRecording}
-use Rattle.rules.specs.Refusal.{number, refusal_of, is_refusal, told}
+use Rattle.rules.specs.Refusal.{number, refusal_of, is_refusal, told, row, below}
 use Rattle.rules.specs.Table.{Row, ◌when◌, first, answer, numbered, known, rising, has, Given, LowestOf, or_else}
 
 pub and_both : (a b : Bool) → a && b ≡ true → (a ≡ true) × (b ≡ true)
@@ -229,6 +229,18 @@ stays r k = go (eqb r 0) refl where
   go : (b : Bool) → eqb r 0 ≡ b → (if b then 0 else r) ≡ r
   go true q = sym (eqb-true r 0 q)
   go false q = refl
+
+-- a row more, as code has it: a row below by `?`
+pub or_else_told : (refusal number : ℕ) (bad : Bool) → (number ≡ 0 → ⊥) → told (or_else refusal number bad) ≡ below (told refusal) (row (refusal_of number) bad)
+unfolding told
+or_else_told refusal number bad some = go (eqb refusal 0) bad refl where
+  go :
+      (z b : Bool) → eqb refusal 0 ≡ z
+      → (let r = if z then (if b then number else 0) else refusal in if eqb r 0 then Ok tt else Err (refusal_of r))
+      ≡ below (if z then Ok tt else Err (refusal_of refusal)) (row (refusal_of number) b)
+  go true true e = rw (ne_eqb number 0 some)
+  go true false e = refl
+  go false b e = rw e
 
 -- a table and a second one below it
 joined : (rows later : List Row) → numbered rows ≡ true → first (rows ++ later) ≡ (if eqb (first rows) 0 then first later else first rows)

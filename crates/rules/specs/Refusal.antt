@@ -56,6 +56,11 @@ told k = if eqb k 0 then Ok tt else Err (refusal_of k)
 abbrev pub row : Refusal → Bool → Result (Unit {0}) Refusal
 row refusal bad = if bad then Err refusal else Ok tt
 
+-- a second row below: it is asked where the first refuses nothing, as `?` has it
+abbrev pub below : Result (Unit {0}) Refusal → Result (Unit {0}) Refusal → Result (Unit {0}) Refusal
+below (Ok x) second = second
+below (Err refusal) second = Err refusal
+
 -- the number of a refusal, if there is one; 0 is none
 abbrev pub number_in : Option Refusal → ℕ
 number_in None = 0
