@@ -1,22 +1,25 @@
--- Runs over two columns and over four: what is known where nothing is refused before the samples, and what the samples decide.
-use mathlib.Core.Path.{◌≡◌, refl}
+-- Runs over one column, over two and over four: a run over columns answers each by its table.
+use mathlib.Core.Path.{◌≡◌, refl, ap, ◌∙◌}
 use mathlib.Core.Logic.{◌↔◌}
-use mathlib.Core.List.{List, zip}
-use mathlib.Core.Bool.{Bool, true, false, ◌||◌}
+use mathlib.Core.List.{List, [], ◌∷◌, zip}
+use mathlib.Core.Bool.{Bool, true, false, ◌||◌, or-false}
 use Prim.Native.Nat.{ℕ, ◌≤◌, min}
 use native.Mathlib.Omega.{arith}
 use lib.ListN.{length}
 use lib.Dec.{ltb}
 use borrow.Author.Tests.{ltb-true, ltb-false, lt-ltb, le-ltb, eq-eqb}
-use Rattle.rules.specs.Limits.{outside}
+use Rattle.rules.specs.Limits.{too_long, differ, outside}
 use Rattle.rules.proofs.Ranges.{same}
-use Rattle.rules.proofs.Readings.{Runs, run_0}
-use Rattle.rules.proofs.Tables.{or_each}
+use Rattle.rules.proofs.Readings.{run_0}
+use Rattle.rules.proofs.Tables.{or_each, or_neither}
+use Rattle.std.specs.Borrow.{Bor}
+use Rattle.std.specs.List.{fold}
 use Rattle.std.specs.Prelude.{if◌then◌else◌, position, Option, Some, None}
 use Rattle.trace.specs.Samples.{first_where, somewhere, earlier, outside_pair, outside_four}
-use Rattle.trace.specs.Answers.{sampled_of, long_pair, long_four, apart_pair, apart_four, pair_answer, four_answer}
-use Rattle.trace.proofs.Columns.{zip_length, four_length}
-use Rattle.trace.proofs.Runs.{early, sampled, Fits32, few_found}
+use Rattle.trace.specs.Answers.{long_pair, long_four, apart_pair, apart_four, run_answer, pair_answer, four_answer}
+use Rattle.trace.specs.Columns.{some_long, some_apart, earliest, columns_answer}
+use Rattle.trace.proofs.Columns.{zip_length}
+use Rattle.trace.proofs.Runs.{early, early_or_sampled, Fits32, few_found}
 use Rattle.trace.proofs.Samples.{all_passed, either, position_is}
 
 -- where neither column has a marked sample, the two together have none
@@ -72,52 +75,82 @@ alike_four a b c d unequal = (
   λ h. rw (eq-eqb (length a) (length b) h.0.0, eq-eqb (length a) (length c) h.0.1, eq-eqb (length a) (length d) h.0.2) h.1,
 )
 
-module _ (miscounted : Bool) (n word : ℕ) (a b : List ℕ) (unequal : Bool) (none : early miscounted n word (long_pair a b) (apart_pair a b unequal) ≡ 0) where
-  pair_fine : Runs miscounted n word (long_pair a b) (apart_pair a b unequal) false
-  pair_fine = (run_0 _ _ _ _ _ _).0 none
+-- one of three, and of four
+or_three : (p q r : Bool) → p || (q || (r || false)) ≡ p || q || r
+or_three true q r = refl
+or_three false q r = ap (λ b. q || b) (or-false r)
 
-  pair_alike : length a ≡ length b
-  pair_alike = ((alike_pair a b unequal).0 pair_fine.alike).0
+or_four : (p q r s : Bool) → p || (q || (r || (s || false))) ≡ p || q || r || s
+or_four true q r s = refl
+or_four false q r s = or_three q r s
 
-  pub pair_few : length a ≤ 2048
-  pair_few = ((short_pair a b).0 pair_fine.short).0
+-- the earlier of three numbers, whichever two are compared first
+earlier_assoc : (i j k : Option ℕ) → earlier (earlier i j) k ≡ earlier i (earlier j k)
+earlier_assoc None j k = refl
+earlier_assoc (Some i) None k = refl
+earlier_assoc (Some i) (Some j) None = refl
+earlier_assoc (Some i) (Some j) (Some k) =
+    let same : min (min i j) k ≡ min i (min j k) = omega arith in
+    rw same
 
-  pair_position : earlier (position (outside n) a) (position (outside n) b) ≡ position (outside_pair n) (zip a b)
-  pair_position = earlier_found (outside n) (outside n) a b pair_alike
+-- numbers found in short columns fit
+earlier_fits : (i j : Option ℕ) → Fits32 i → Fits32 j → Fits32 (earlier i j)
+earlier_fits None j f g = g
+earlier_fits (Some i) None f g = f
+earlier_fits (Some i) (Some j) f g = omega (arith, f, g)
 
-  pub pair_found : Fits32 (earlier (position (outside n) a) (position (outside n) b))
-  pair_found = rw pair_position (few_found (outside_pair n) (zip a b) (omega (arith, zip_length a b pair_alike, pair_few)))
+all_fit :
+    (n : ℕ) (columns : List (Bor (List ℕ))) (found : Option ℕ) → Fits32 found → some_long columns ≡ false
+    → Fits32 (fold (λ i c. earlier i (position (outside n) c.now)) found columns)
+all_fit n [] found f short = f
+all_fit n (c ∷ columns) found f short =
+    let p = or_neither (too_long (length c.now)) _ short in
+    let few = few_found (outside n) c.now (ltb-false 2048 (length c.now) p.0) in
+    all_fit n columns _ (earlier_fits found (position (outside n) c.now) f few) p.1
 
-  pub pair_sampled : sampled_of (earlier (position (outside n) a) (position (outside n) b)) ≡ pair_answer miscounted n word a b unequal
-  pair_sampled = rw pair_position (sampled miscounted n word _ _ outside_pair (zip a b) none)
+module _ (miscounted : Bool) (n word : ℕ) where
+  pub columns_fit :
+      (columns : List (Bor (List ℕ))) (unequal : Bool)
+      → early miscounted n word (some_long columns) (some_apart columns || unequal) ≡ 0
+      → Fits32 (earliest n columns)
+  columns_fit columns unequal none =
+      let fine = (run_0 miscounted n word _ (some_apart columns || unequal) false).0 none in
+      all_fit n columns None tt fine.short
 
-module _
-    (miscounted : Bool) (n word : ℕ) (a b c d : List ℕ) (unequal : Bool)
-    (none : early miscounted n word (long_four a b c d) (apart_four a b c d unequal) ≡ 0) where
-  four_fine : Runs miscounted n word (long_four a b c d) (apart_four a b c d unequal) false
-  four_fine = (run_0 _ _ _ _ _ _).0 none
+  -- the answer over one column, over two and over four
+  pub one_column :
+      (a : Bor (List ℕ)) (unequal : Bool)
+      → columns_answer miscounted n word (a ∷ []) unequal ≡ run_answer outside miscounted n word (too_long (length a.now)) unequal a.now
+  one_column a unequal = rw (or-false (too_long (length a.now))) (early_or_sampled miscounted n word _ unequal outside a.now _ (λ none. refl))
 
-  four_alike : (length a ≡ length b) × (length a ≡ length c) × (length a ≡ length d)
-  four_alike = ((alike_four a b c d unequal).0 four_fine.alike).0
+  module _ (a b : Bor (List ℕ)) (unequal : Bool) where
+    pair_found :
+        early miscounted n word (long_pair a.now b.now) (apart_pair a.now b.now unequal) ≡ 0
+        → earliest n (a ∷ b ∷ []) ≡ position (outside_pair n) (zip a.now b.now)
+    pair_found none =
+        let fine = (run_0 miscounted n word (long_pair a.now b.now) _ false).0 none in
+        earlier_found (outside n) (outside n) a.now b.now ((alike_pair a.now b.now unequal).0 fine.alike).0
 
-  pub four_few : length a ≤ 2048
-  four_few = ((short_four a b c d).0 four_fine.short).0.0
+    pub two_columns : columns_answer miscounted n word (a ∷ b ∷ []) unequal ≡ pair_answer miscounted n word a.now b.now unequal
+    two_columns =
+        rw (or-false (too_long (length b.now)), or-false (differ (length a.now) (length b.now)))
+        (early_or_sampled miscounted n word _ _ outside_pair (zip a.now b.now) _ pair_found)
 
-  abbrev four_earliest : Option ℕ
-  four_earliest = earlier (earlier (position (outside n) a) (position (outside n) b)) (earlier (position (outside n) c) (position (outside n) d))
+  module _ (a b c d : Bor (List ℕ)) (unequal : Bool) where
+    four_found :
+        early miscounted n word (long_four a.now b.now c.now d.now) (apart_four a.now b.now c.now d.now unequal) ≡ 0
+        → earliest n (a ∷ b ∷ c ∷ d ∷ []) ≡ position (outside_four n) (zip (zip a.now b.now) (zip c.now d.now))
+    four_found none =
+        let fine = (run_0 miscounted n word (long_four a.now b.now c.now d.now) _ false).0 none in
+        let alike = ((alike_four a.now b.now c.now d.now unequal).0 fine.alike).0 in
+        let cd : length c.now ≡ length d.now = omega (arith, alike) in
+        let pairs : length (zip a.now b.now) ≡ length (zip c.now d.now) =
+        omega (arith, alike, zip_length a.now b.now alike.0, zip_length c.now d.now cd) in
+        earlier_assoc _ (position (outside n) c.now) (position (outside n) d.now)
+        ∙ rw (earlier_found (outside n) (outside n) a.now b.now alike.0, earlier_found (outside n) (outside n) c.now d.now cd)
+        (earlier_found (outside_pair n) (outside_pair n) (zip a.now b.now) (zip c.now d.now) pairs)
 
-  four_position : four_earliest ≡ position (outside_four n) (zip (zip a b) (zip c d))
-  four_position =
-      let ab = four_alike.0 in
-      let cd : length c ≡ length d = omega (arith, four_alike) in
-      let pairs : length (zip a b) ≡ length (zip c d) = omega (arith, four_alike, zip_length a b ab, zip_length c d cd) in
-      rw (earlier_found (outside n) (outside n) a b ab, earlier_found (outside n) (outside n) c d cd)
-      (earlier_found (outside_pair n) (outside_pair n) (zip a b) (zip c d) pairs)
-
-  pub four_found : Fits32 four_earliest
-  four_found =
-      rw four_position
-      (few_found (outside_four n) (zip (zip a b) (zip c d)) (omega (arith, four_length a b c d four_alike.0 four_alike.1 four_alike.2, four_few)))
-
-  pub four_sampled : sampled_of four_earliest ≡ four_answer miscounted n word a b c d unequal
-  four_sampled = rw four_position (sampled miscounted n word _ _ outside_four (zip (zip a b) (zip c d)) none)
+    pub four_columns : columns_answer miscounted n word (a ∷ b ∷ c ∷ d ∷ []) unequal ≡ four_answer miscounted n word a.now b.now c.now d.now unequal
+    four_columns =
+        rw (or_four, or_three)
+        (early_or_sampled miscounted n word _ _ outside_four (zip (zip a.now b.now) (zip c.now d.now)) _ four_found)

@@ -6,7 +6,8 @@ use mathlib.Core.Bool.{Bool, true, false}
 use Prim.Native.Nat.{ℕ, zero, suc, ◌^◌, ◌<◌, ◌≤◌}
 use native.Mathlib.Omega.{arith}
 use lib.ListN.{length, take}
-use borrow.Author.Tests.{ne_eqb, ltb-true}
+use lib.Dec.{eqb}
+use borrow.Author.Tests.{ne_eqb, eqb-true, eqb-false, ltb-true}
 use Rattle.std.specs.Prelude.{if◌then◌else◌, position, Option, Some, None, MatchOption, Err}
 use Rattle.rules.specs.declared.refusal.Refusal.{Refusal}
 use Rattle.rules.specs.declared.refusal.Refusal.TheVariants.{Sample}
@@ -14,7 +15,7 @@ use Rattle.rules.specs.Refusal.{number, refusal_of, is_refusal, told}
 use Rattle.rules.specs.Table.{Row, ◌when◌, first, answer, known, has, Given, or_else}
 use Rattle.rules.specs.Refusals.{run_rows}
 use Rattle.rules.proofs.Readings.{Makes, Runs, run_exactly, run_0}
-use Rattle.rules.proofs.Tables.{foreign, exactly_when, one_more, own, known_first, known_numbered, told_err}
+use Rattle.rules.proofs.Tables.{foreign, exactly_when, one_more, own, known_first, known_numbered, told_err, told_some, refuses, works}
 use Rattle.trace.specs.Samples.{first_where, somewhere, Smallest}
 use Rattle.trace.specs.Answers.{RunResult, done, run_number, run_sample, not_run, at_once, run_answer, sampled_of}
 use Rattle.trace.proofs.Samples.{smallest, position_is}
@@ -98,6 +99,17 @@ module _ (miscounted : Bool) (n word : ℕ) (long unequal : Bool) where
     pub sampled : early ≡ 0 → sampled_of (position (out n) xs) ≡ answered
     unfolding run_answer first known refusal_of
     sampled = samples_decide early_rows refl refl (out n) xs
+
+    -- and as one: what is known at once, or the samples
+    pub early_or_sampled : (found : Option ℕ) → (early ≡ 0 → found ≡ position (out n) xs) → answer early (λ r. Err (at_once r)) (sampled_of found) ≡ answered
+    early_or_sampled found same = go (eqb early 0) refl where
+      go : (b : Bool) → eqb early 0 ≡ b → answer early (λ r. Err (at_once r)) (sampled_of found) ≡ answered
+      go true q =
+          let e = eqb-true early 0 q in
+          sym (works (λ r. Err (at_once r)) (sampled_of found) early e) ∙ ap sampled_of (same e) ∙ sampled e
+      go false q =
+          let e = told_some (eqb-false early 0 q) in
+          sym (refuses (λ r. Err (at_once r)) (sampled_of found) early e) ∙ refused_early e
 
     -- each number is given exactly when the table says so
     pub answer_exactly : (k : ℕ) → (run_number answered ≡ k) ↔ Given k (run_rows miscounted n word long unequal (somewhere (out n) xs))

@@ -9,6 +9,7 @@ ghost use Rattle.rules.specs.Refusals.{run_rows};
 ghost use Rattle.rules.specs.Table.{first};
 ghost use Rattle.trace.specs.Samples.{somewhere, earlier};
 ghost use Rattle.trace.specs.Answers.{at_once, run_number, run_sample, run_answer, sampled_of, pair_answer, four_answer};
+ghost use Rattle.trace.specs.Columns.{some_long, some_apart, earliest, columns_answer};
 
 use rules::{Limits, Refusal};
 
@@ -97,11 +98,30 @@ fn outsider(n: u32, samples: &[u32]) -> Option<usize>
     samples.iter().position(|sample| rules::outside(n, *sample))
 }
 
-// The same in two columns.
-fn outsider_of(n: u32, a: &[u32], b: &[u32]) -> Option<usize>
-    ensures { result ≡ earlier (position (outside n) a.now) (position (outside n) b.now) }
+// Some column has too many samples.
+fn some_long(columns: &[&[u32]]) -> bool
+    ensures { result ≡ some_long columns.now }
 {
-    earlier(outsider(n, a), outsider(n, b))
+    columns.iter().any(|column| column.len() > Limits::SAMPLES)
+}
+
+// Some column has another length than the first.
+fn some_apart(columns: &[&[u32]]) -> bool
+    ensures { result ≡ some_apart columns.now }
+{
+    let Some((first, others)) = columns.split_first() else {
+        return false;
+    };
+    others.iter().any(|column| first.len() != column.len())
+}
+
+// The number of the first sample outside the width in any column.
+fn earliest(n: u32, columns: &[&[u32]]) -> Option<usize>
+    ensures { result ≡ earliest n columns.now }
+{
+    columns
+        .iter()
+        .fold(None, |found, column| earlier(found, outsider(n, column)))
 }
 
 // The last row of a run's table: a sample outside the width, if there is one.
@@ -118,17 +138,33 @@ fn sampled(outsider: Option<usize>) -> RunAnswer
     }
 }
 
-// A run over one column. A trace that is refused by a lower number is not read.
+// A run over columns, whose lengths are compared here. A trace that is refused by a lower number is not read.
+fn judge_columns(
+    miscounted: bool,
+    n: u32,
+    word: u32,
+    columns: &[&[u32]],
+    unequal: bool,
+) -> RunAnswer
+    ensures { result ≡ columns_answer miscounted n word columns.now unequal }
+{
+    let long = some_long(columns);
+    let apart = some_apart(columns) | unequal;
+    run_refusal(miscounted, n, word, long, apart)?;
+    sampled(earliest(n, columns))
+}
+
+// A run over one column.
+#[tactic(auto, using(crate::proofs::Pairs::one_column))]
 pub fn judge(miscounted: bool, n: u32, word: u32, samples: &[u32], unequal: bool) -> RunAnswer
     ensures { result ≡ run_answer outside miscounted n word (too_long (length samples.now))
         unequal samples.now }
 {
-    let long = samples.len() > Limits::SAMPLES;
-    run_refusal(miscounted, n, word, long, unequal)?;
-    sampled(outsider(n, samples))
+    judge_columns(miscounted, n, word, &[samples], unequal)
 }
 
-// A run over two columns, whose lengths are compared here.
+// A run over two columns.
+#[tactic(auto, using(crate::proofs::Pairs::two_columns))]
 pub fn judge_pair(
     miscounted: bool,
     n: u32,
@@ -139,13 +175,11 @@ pub fn judge_pair(
 ) -> RunAnswer
     ensures { result ≡ pair_answer miscounted n word a.now b.now unequal }
 {
-    let long = (a.len() > Limits::SAMPLES) | (b.len() > Limits::SAMPLES);
-    let apart = (a.len() != b.len()) | unequal;
-    run_refusal(miscounted, n, word, long, apart)?;
-    sampled(outsider_of(n, a, b))
+    judge_columns(miscounted, n, word, &[a, b], unequal)
 }
 
-// A run over four columns, two pairs, whose lengths are compared here.
+// A run over four columns, two pairs.
+#[tactic(auto, using(crate::proofs::Pairs::four_columns))]
 pub fn judge_four(
     miscounted: bool,
     n: u32,
@@ -158,11 +192,5 @@ pub fn judge_four(
 ) -> RunAnswer
     ensures { result ≡ four_answer miscounted n word a.now b.now c.now d.now unequal }
 {
-    let long = (a.len() > Limits::SAMPLES)
-        | (b.len() > Limits::SAMPLES)
-        | (c.len() > Limits::SAMPLES)
-        | (d.len() > Limits::SAMPLES);
-    let apart = (a.len() != b.len()) | (a.len() != c.len()) | (a.len() != d.len()) | unequal;
-    run_refusal(miscounted, n, word, long, apart)?;
-    sampled(earlier(outsider_of(n, a, b), outsider_of(n, c, d)))
+    judge_columns(miscounted, n, word, &[a, b, c, d], unequal)
 }
