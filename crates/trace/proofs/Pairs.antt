@@ -13,9 +13,9 @@ use Rattle.rules.proofs.Ranges.{same}
 use Rattle.rules.proofs.Readings.{run_0}
 use Rattle.rules.proofs.Tables.{or_each, or_neither}
 use Rattle.std.specs.Borrow.{Bor}
-use Rattle.std.specs.List.{fold}
+use Rattle.std.specs.List.{fold, filter_map, reduce, cons_option}
 use Rattle.std.specs.Prelude.{if◌then◌else◌, position, Option, Some, None}
-use Rattle.trace.specs.Samples.{first_where, somewhere, earlier, outside_pair, outside_four}
+use Rattle.trace.specs.Samples.{first_where, somewhere, outside_pair, outside_four}
 use Rattle.trace.specs.Answers.{long_pair, long_four, apart_pair, apart_four, run_answer, pair_answer, four_answer}
 use Rattle.trace.specs.Columns.{some_long, some_apart, earliest, columns_answer}
 use Rattle.trace.proofs.Columns.{zip_length}
@@ -29,6 +29,12 @@ pub neither :
 neither p q xs ys e f g =
     let passed : length xs ≤ min (first_where p xs) (first_where q ys) = omega (arith, all_passed p xs f, all_passed q ys g) in
     rw (either p q xs ys e, zip_length xs ys e) (le-ltb _ _ passed)
+
+-- the smaller of two numbers, of which either may be missing
+abbrev earlier : Option ℕ → Option ℕ → Option ℕ
+earlier None j = j
+earlier (Some i) None = Some i
+earlier (Some i) (Some j) = Some (min i j)
 
 -- the smaller of the numbers found in two columns is the one found in both together
 smaller :
@@ -93,6 +99,25 @@ earlier_assoc (Some i) (Some j) (Some k) =
     let same : min (min i j) k ≡ min i (min j k) = omega arith in
     rw same
 
+-- the smallest number that is there, taken one by one
+module _ {X : Type 0} (h : X → Option ℕ) where
+  abbrev by_one : Option ℕ → List X → Option ℕ
+  by_one found xs = fold (λ i x. earlier i (h x)) found xs
+
+  from_some : (i : ℕ) (xs : List X) → Some (fold min i (filter_map h xs)) ≡ by_one (Some i) xs
+  from_some i [] = refl
+  from_some i (x ∷ xs) = go (h x) (λ j. from_some j xs) where
+    go : (o : Option ℕ) → ((j : ℕ) → Some (fold min j (filter_map h xs)) ≡ by_one (Some j) xs) → Some (fold min i (cons_option o (filter_map h xs))) ≡ by_one (earlier (Some i) o) xs
+    go None later = later i
+    go (Some j) later = later (min i j)
+
+  one_by_one : (xs : List X) → reduce min (filter_map h xs) ≡ by_one None xs
+  one_by_one [] = refl
+  one_by_one (x ∷ xs) = go (h x) (one_by_one xs) where
+    go : (o : Option ℕ) → reduce min (filter_map h xs) ≡ by_one None xs → reduce min (cons_option o (filter_map h xs)) ≡ by_one o xs
+    go None later = later
+    go (Some j) later = from_some j xs
+
 -- numbers found in short columns fit
 earlier_fits : (i j : Option ℕ) → Fits32 i → Fits32 j → Fits32 (earlier i j)
 earlier_fits None j f g = g
@@ -101,7 +126,7 @@ earlier_fits (Some i) (Some j) f g = omega (arith, f, g)
 
 all_fit :
     (n : ℕ) (columns : List (Bor (List ℕ))) (found : Option ℕ) → Fits32 found → some_long columns ≡ false
-    → Fits32 (fold (λ i c. earlier i (position (outside n) c.now)) found columns)
+    → Fits32 (by_one (λ c. position (outside n) c.now) found columns)
 all_fit n [] found f short = f
 all_fit n (c ∷ columns) found f short =
     let p = or_neither (too_long (length c.now)) _ short in
@@ -115,13 +140,13 @@ module _ (miscounted : Bool) (n word : ℕ) where
       → Fits32 (earliest n columns)
   columns_fit columns unequal none =
       let fine = (run_0 miscounted n word _ (some_apart columns || unequal) false).0 none in
-      all_fit n columns None tt fine.short
+      rw (one_by_one (λ c. position (outside n) c.now) columns) (all_fit n columns None tt fine.short)
 
   -- the answer over one column, over two and over four
   pub one_column :
       (a : Bor (List ℕ)) (unequal : Bool)
       → columns_answer miscounted n word (a ∷ []) unequal ≡ run_answer outside miscounted n word (too_long (length a.now)) unequal a.now
-  one_column a unequal = rw (or-false (too_long (length a.now))) (early_or_sampled miscounted n word _ unequal outside a.now _ (λ none. refl))
+  one_column a unequal = rw (or-false (too_long (length a.now))) (early_or_sampled miscounted n word _ unequal outside a.now _ (λ none. one_by_one (λ c. position (outside n) c.now) (a ∷ [])))
 
   module _ (a b : Bor (List ℕ)) (unequal : Bool) where
     pair_found :
@@ -129,7 +154,8 @@ module _ (miscounted : Bool) (n word : ℕ) where
         → earliest n (a ∷ b ∷ []) ≡ position (outside_pair n) (zip a.now b.now)
     pair_found none =
         let fine = (run_0 miscounted n word (long_pair a.now b.now) _ false).0 none in
-        earlier_found (outside n) (outside n) a.now b.now ((alike_pair a.now b.now unequal).0 fine.alike).0
+        one_by_one (λ c. position (outside n) c.now) (a ∷ b ∷ [])
+        ∙ earlier_found (outside n) (outside n) a.now b.now ((alike_pair a.now b.now unequal).0 fine.alike).0
 
     pub two_columns : columns_answer miscounted n word (a ∷ b ∷ []) unequal ≡ pair_answer miscounted n word a.now b.now unequal
     two_columns =
@@ -146,7 +172,8 @@ module _ (miscounted : Bool) (n word : ℕ) where
         let cd : length c.now ≡ length d.now = omega (arith, alike) in
         let pairs : length (zip a.now b.now) ≡ length (zip c.now d.now) =
         omega (arith, alike, zip_length a.now b.now alike.0, zip_length c.now d.now cd) in
-        earlier_assoc _ (position (outside n) c.now) (position (outside n) d.now)
+        one_by_one (λ e. position (outside n) e.now) (a ∷ b ∷ c ∷ d ∷ [])
+        ∙ earlier_assoc _ (position (outside n) c.now) (position (outside n) d.now)
         ∙ rw (earlier_found (outside n) (outside n) a.now b.now alike.0, earlier_found (outside n) (outside n) c.now d.now cd)
         (earlier_found (outside_pair n) (outside_pair n) (zip a.now b.now) (zip c.now d.now) pairs)
 

@@ -1,12 +1,11 @@
 -- Serves proofs only: a run over any number of columns, as the code takes it.
-use Rattle.std.specs.Prelude.{ℕ, Bool, false, ◌||◌, length, position, Option, None, Err}
+use Rattle.std.specs.Prelude.{ℕ, Bool, false, ◌||◌, length, position, min, Option, Err}
 use Rattle.std.specs.Borrow.{Bor}
-use Rattle.std.specs.List.{list_any, fold}
+use Rattle.std.specs.List.{list_any, filter_map, reduce}
 use mathlib.Core.List.{List, [], ◌∷◌}
 use Rattle.rules.specs.Limits.{too_long, differ, outside}
 use Rattle.rules.specs.Refusals.{run_rows}
 use Rattle.rules.specs.Table.{first, answer}
-use Rattle.trace.specs.Samples.{earlier}
 use Rattle.trace.specs.Answers.{RunResult, at_once, sampled_of}
 
 -- 3: some column has too many samples
@@ -20,7 +19,7 @@ some_apart (column ∷ others) = list_any (λ c. differ (length column.now) (len
 
 -- 6: the first sample outside the width in any column
 abbrev pub earliest : ℕ → List (Bor (List ℕ)) → Option ℕ
-earliest n columns = fold (λ found c. earlier found (position (outside n) c.now)) None columns
+earliest n columns = reduce min (filter_map (λ c. position (outside n) c.now) columns)
 
 abbrev pub columns_answer : Bool → ℕ → ℕ → List (Bor (List ℕ)) → Bool → RunResult
 columns_answer miscounted n word columns unequal =

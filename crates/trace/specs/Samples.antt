@@ -1,5 +1,5 @@
 -- The smallest sample number with which a test is true.
-use Rattle.std.specs.Prelude.{ℕ, suc, ◌<◌, ◌≡◌, List, [], ◌∷◌, Bool, true, false, ◌||◌, length, get_or, ltb, min, if◌then◌else◌, Option, Some, None}
+use Rattle.std.specs.Prelude.{ℕ, suc, ◌<◌, ◌≡◌, List, [], ◌∷◌, Bool, true, false, ◌||◌, length, get_or, ltb, if◌then◌else◌}
 use Rattle.rules.specs.Limits.{outside}
 
 -- the number of the first sample that the test marks; the number of samples if it marks none
@@ -10,12 +10,6 @@ first_where test (x ∷ xs) = if test x then 0 else suc (first_where test xs)
 -- the test marks some sample
 abbrev pub somewhere : {X : Type 0} → (X → Bool) → List X → Bool
 somewhere test xs = ltb (first_where test xs) (length xs)
-
--- the smaller of two numbers, of which either may be missing
-abbrev pub earlier : Option ℕ → Option ℕ → Option ℕ
-earlier None j = j
-earlier (Some i) None = Some i
-earlier (Some i) (Some j) = Some (min i j)
 
 -- k is the smallest number of a sample that the test marks (d stands past the end, where nothing is looked at)
 pub record Smallest {X : Type 0} (test : X → Bool) (xs : List X) (k : ℕ) : Type 0 where

@@ -7,7 +7,7 @@ ghost use Rattle.rules.specs.Limits.{too_long, outside};
 ghost use Rattle.rules.specs.Refusal.{told};
 ghost use Rattle.rules.specs.Refusals.{run_rows};
 ghost use Rattle.rules.specs.Table.{first};
-ghost use Rattle.trace.specs.Samples.{somewhere, earlier};
+ghost use Rattle.trace.specs.Samples.{somewhere};
 ghost use Rattle.trace.specs.Answers.{at_once, run_number, run_sample, run_answer, sampled_of, pair_answer, four_answer};
 ghost use Rattle.trace.specs.Columns.{some_long, some_apart, earliest, columns_answer};
 
@@ -81,13 +81,6 @@ fn some_outside(n: u32, samples: &[u32]) -> bool
     rules::outside(n, union)
 }
 
-// The smaller of two numbers, of which either may be missing.
-fn earlier(i: Option<usize>, j: Option<usize>) -> Option<usize>
-    ensures { result ≡ earlier i j }
-{
-    i.into_iter().chain(j).min()
-}
-
 // The number of the first sample outside the width, searched only where the OR of all samples says that there is one.
 fn outsider(n: u32, samples: &[u32]) -> Option<usize>
     ensures { result ≡ position (outside n) samples.now }
@@ -121,7 +114,8 @@ fn earliest(n: u32, columns: &[&[u32]]) -> Option<usize>
 {
     columns
         .iter()
-        .fold(None, |found, column| earlier(found, outsider(n, column)))
+        .filter_map(|column| outsider(n, column))
+        .min()
 }
 
 // The last row of a run's table: a sample outside the width, if there is one.
