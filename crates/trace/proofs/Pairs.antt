@@ -146,7 +146,9 @@ module _ (miscounted : Bool) (n word : ℕ) where
   pub one_column :
       (a : Bor (List ℕ)) (unequal : Bool)
       → columns_answer miscounted n word (a ∷ []) unequal ≡ run_answer outside miscounted n word (too_long (length a.now)) unequal a.now
-  one_column a unequal = rw (or-false (too_long (length a.now))) (early_or_sampled miscounted n word _ unequal outside a.now _ (λ none. one_by_one (λ c. position (outside n) c.now) (a ∷ [])))
+  one_column a unequal =
+      rw (or-false (too_long (length a.now)))
+      (early_or_sampled miscounted n word _ unequal outside a.now _ (λ none. one_by_one (λ c. position (outside n) c.now) (a ∷ [])))
 
   module _ (a b : Bor (List ℕ)) (unequal : Bool) where
     pair_found :
