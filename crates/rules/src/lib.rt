@@ -95,7 +95,7 @@ pub fn admits(counts: bool, n: u32, words: u32) -> bool
         return false;
     }
     // In 64 bits, so that a shift by 32 is one like any other.
-    let above = words as u64 >> n;
+    let above = u64::from(words) >> n;
     counts & (above == 0)
 }
 

@@ -10,7 +10,7 @@ pub enum Refusal {
     Width,
     // A trace has more than 2,048 samples.
     TooLong,
-    // The lent slices of one call differ in length.
+    // The lent slices of one run differ in length, or one lent to the reader has not 2,048 places.
     Lengths,
     // The initial word has a bit at n or above.
     Word,

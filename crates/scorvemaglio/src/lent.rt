@@ -1,4 +1,5 @@
-// What the boundary does alike for each voter: its state is numbers, and where nothing is refused they are written.
+// What the boundary does alike for the voters: a state is numbers, written where nothing is refused. The reserve vote's
+// step has its own, since a phase from C may be none.
 ghost use Rattle.std.specs.Prelude.{◌≡◌, ℕ, List};
 ghost use Rattle.rules.specs.Refusal.{number_in};
 ghost use Rattle.scorvemaglio.specs.Lent.{Makes, Steps};

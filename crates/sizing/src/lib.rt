@@ -8,7 +8,7 @@ ghost use Rattle.sizing.specs.Sizing.{bad_gaps, count_of, votes_of, size_rows, s
 
 use rules::{Limits, Refusal};
 
-// The confirmation's count N, the votes' count, and from N the age bound and the quiet gap; with a refusal all are zeros.
+// The confirmation's count N, the votes' count, and from N the age bound and the quiet gap; zeros with a refusal.
 // Times are whole microseconds.
 #[derive(Clone, Copy, Debug, Default, PartialEq, Eq)]
 pub struct Sizing {

@@ -15,7 +15,7 @@ pub struct Readings {
     pub tolerance: f64,
 }
 
-// The reading that was agreed on, an alarm, or a refusal's number.
+// The reading that was agreed on, an alarm, or a refusal.
 #[derive(Clone, Copy)]
 pub enum Threshold {
     Agreed(f64),

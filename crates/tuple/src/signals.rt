@@ -69,8 +69,8 @@ fn step_counts(n: usize, need: u32, counts: &mut [u32; 32], disagreeing: u32) ->
     mask
 }
 
-// The same at a sample. Where no signal disagrees every count becomes zero; they are written only if some voter waits, that
-// is, if a count may be another.
+// The same at a sample. Where no signal disagrees every count becomes zero; they are written only if some voter
+// waits, that is, if a count may be another.
 pub(crate) fn step_sample(
     n: usize,
     need: u32,

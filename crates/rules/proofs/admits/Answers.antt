@@ -20,4 +20,4 @@ overflow_shr-above c = omega (arith, (width_range c.args.n (sym c.bad_width.ensu
 pub returns : goal.returns
 returns c =
     let a = c.args in
-    rw (← c.bad_width.ensures, c.if-bad_width.false, shifted_out a.n a.words) (with_width a.counts (ltb a.words (2 ^ a.n)))
+    rw (c.from.ensures, ← c.bad_width.ensures, c.if-bad_width.false, shifted_out a.n a.words) (with_width a.counts (ltb a.words (2 ^ a.n)))
