@@ -39,7 +39,7 @@ def rust_names(text):
     found.update(re.findall(r'^\s*(?:requires|ensures)\*? (\w+) \{', text, re.M))
     for body in blocks('struct', text) + blocks('enum', text):
         found.update(re.findall(r'(\w+)\s*:', body))
-        found.update(re.findall(r'^\s*(\w+)\s*(?=[,({]|$)', body, re.M))
+        found.update(re.findall(r'^\s*(\w+)\s*(?=[,({]|= \d+,|$)', body, re.M))
     return found
 
 
