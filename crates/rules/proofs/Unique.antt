@@ -4,7 +4,7 @@ use mathlib.Core.Bool.{true}
 use Rattle.rules.specs.Limits
 use Rattle.rules.specs.Limits.{bad_count, bad_width, default_word}
 use Rattle.rules.specs.Refusal.{number, refusal_of, told, row}
-use Rattle.rules.specs.Table.{first}
+use Rattle.rules.specs.Table.{first, or_else}
 use Rattle.rules.specs.Refusals
 use Rattle.rules.specs.Refusals.{make_rows, step_rows}
 use Rattle.rules.specs.Promise.{Fixes}
@@ -16,10 +16,12 @@ use Rattle.rules.proofs.default_word.Reads as default-word
 use Rattle.rules.proofs.last.Reads as last
 use Rattle.rules.proofs.refusal.U32FromRefusal.from.Reads as from
 use Rattle.rules.proofs.refusal.Refusal.when.Reads as when
+use Rattle.rules.proofs.or_else.Reads as or_else
 use Rattle.rules.proofs.make_refusal.Reads as make-refusal
 use Rattle.rules.proofs.counted.Reads as counted
 use Rattle.rules.proofs.admits.Reads as admits
 use Rattle.rules.proofs.step_refusal.Reads as step_refusal
+use Rattle.rules.proofs.step_number.Reads as step_number
 
 pub bad_count_unique : Fixes (bad-count.Learnt tt) (λ z e. z) (λ a. bad_count a.0)
 bad_count_unique = fixes (λ a z e p. p)
@@ -42,6 +44,9 @@ number_unique = fixes (λ a z e p. p)
 pub when_unique : Fixes (when.Learnt tt) (λ z e. z) (λ a. row a.0 a.1.0)
 when_unique = fixes (λ a z e p. p)
 
+pub or_else_unique : Fixes (or_else.Learnt tt) (λ z e. z) (λ a. or_else a.0 a.1.0 a.1.1.0)
+or_else_unique = fixes (λ a z e p. p)
+
 pub make_refusal_unique : Fixes (make-refusal.Learnt tt) (λ z e. z) (λ a. told (first (make_rows a.0 a.1.0 a.1.1.0)))
 make_refusal_unique = fixes (λ a z e p. p)
 
@@ -53,3 +58,6 @@ admits_unique = fixes (λ a z e p. p)
 
 pub step_refusal_unique : Fixes (step_refusal.Learnt tt) (λ z e. z) (λ a. refusal_of (first (step_rows a.0 a.1.0 (Limits.outside a.1.0 a.1.1.0) true)))
 step_refusal_unique = fixes (λ a z e p. p)
+
+pub step_number_unique : Fixes (step_number.Learnt tt) (λ z e. z) (λ a. first (step_rows a.0 a.1.0 (Limits.outside a.1.0 a.1.1.0) true))
+step_number_unique = fixes (λ a z e p. p)

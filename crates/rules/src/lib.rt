@@ -6,7 +6,7 @@ mod refusal;
 
 ghost use Rattle.std.specs.Prelude.{◌≡◌, true, ◌-◌};
 ghost use Rattle.rules.specs.Limits.{bad_count, bad_width, outside, default_word};
-ghost use Rattle.rules.specs.Table.{first};
+ghost use Rattle.rules.specs.Table.{first, or_else};
 ghost use Rattle.rules.specs.Refusal.{refusal_of, told};
 ghost use Rattle.rules.specs.Refusals.{make_rows, step_rows, counted, admits};
 
@@ -69,6 +69,16 @@ pub fn last(need: u32) -> u32
     need.saturating_sub(1)
 }
 
+// One row of a table whose numbers are no names: what is refused already stays.
+pub fn or_else(refusal: u32, number: u32, bad: bool) -> u32
+    ensures { result ≡ or_else refusal number bad }
+{
+    if refusal != 0 {
+        return refusal;
+    }
+    if bad { number } else { 0 }
+}
+
 // The table of every constructor: a bad count, the width, the initial word.
 #[tactic(auto, unfolding(crate::specs::Table::first, crate::specs::Refusal::refusal_of, crate::specs::Refusal::told))]
 pub fn make_refusal(miscounted: bool, n: u32, word: u32) -> Result<(), Refusal>
@@ -114,4 +124,12 @@ pub fn step_refusal(miscounted: bool, n: u32, sample: u32) -> Refusal
         return Refusal::Sample;
     }
     Refusal::State
+}
+
+// The number of a step that is not taken.
+#[tactic(auto, using(crate::proofs::OneTest::step_own))]
+pub fn step_number(miscounted: bool, n: u32, sample: u32) -> u32
+    ensures { result ≡ first (step_rows miscounted n (outside n sample) true) }
+{
+    step_refusal(miscounted, n, sample).into()
 }
