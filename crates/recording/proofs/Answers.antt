@@ -32,8 +32,8 @@ module _ (lent : Bool) (s : List ℕ) where
 
   module _ (e : first (shape_rows lent s) ≡ 0) where
     decided : first (rows_of lent s) ≡ or_else 0 6 (somewhere (outside_at s (header_of s)) (numbers (header_of s)))
-    unfolding known refusal_of
-    decided = samples_number (shape_rows lent s) refl refl (outside_at s (header_of s)) (numbers (header_of s)) e
+    unfolding numbered
+    decided = samples_number (shape_rows lent s) refl (outside_at s (header_of s)) (numbers (header_of s)) e
 
     pub sample_refused : {k : ℕ} → first_outside s (header_of s) ≡ Some k → refused_at (record { refusal = Sample; sample = k }) ≡ read_of lent s
     unfolding read_of refusal_of

@@ -12,7 +12,7 @@ use Rattle.std.specs.Prelude.{if◌then◌else◌, position, Option, Some, None,
 use Rattle.rules.specs.declared.refusal.Refusal.{Refusal}
 use Rattle.rules.specs.declared.refusal.Refusal.TheVariants.{Sample}
 use Rattle.rules.specs.Refusal.{number, refusal_of, is_refusal, told}
-use Rattle.rules.specs.Table.{Row, ◌when◌, first, answer, known, has, Given, or_else}
+use Rattle.rules.specs.Table.{Row, ◌when◌, first, answer, numbered, known, has, Given, or_else}
 use Rattle.rules.specs.Refusals.{run_rows}
 use Rattle.rules.proofs.Readings.{Makes, Runs, run_exactly, run_0}
 use Rattle.rules.proofs.Tables.{foreign, exactly_when, one_more, own, known_first, known_numbered, told_err, told_some, refuses, works}
@@ -30,13 +30,28 @@ few_found test xs few = rw (position_is test xs) (go (somewhere test xs) refl) w
   go true e = omega (arith, ltb-true (first_where test xs) (length xs) e)
   go false e = tt
 
--- any table whose last row is 6, for a sample that the test marks, below rows that have neither 0 nor 6
-module _ {X : Type 0} (rows : List Row) (named : known rows ≡ true) (no_six : has 6 rows ≡ false) (test : X → Bool) (xs : List X) where
-  abbrev whole : RunResult
-  whole = answer (first (rows ++ (6 when somewhere test xs ∷ []))) (not_run (first_where test xs)) done
+-- any table whose last row is 6, for a sample that the test marks
+abbrev whole : {X : Type 0} → List Row → (X → Bool) → List X → RunResult
+whole rows test xs = answer (first (rows ++ (6 when somewhere test xs ∷ []))) (not_run (first_where test xs)) done
 
-  -- a row before the last refuses, at sample 0
-  pub early_row_refuses : {refusal : Refusal} → told (first rows) ≡ Err refusal → Err (at_once refusal) ≡ whole
+-- below rows that have no 0, and give none, the samples decide
+module _ {X : Type 0} (rows : List Row) (nonzero : numbered rows ≡ true) (test : X → Bool) (xs : List X) (e : first rows ≡ 0) where
+  pub samples_number : first (rows ++ (6 when somewhere test xs ∷ [])) ≡ or_else 0 6 (somewhere test xs)
+  samples_number = one_more rows nonzero 6 _ ∙ rw e
+
+  pub samples_decide : sampled_of (position test xs) ≡ whole rows test xs
+  unfolding refusal_of
+  samples_decide = rw (samples_number, position_is test xs) (go (somewhere test xs)) where
+    go :
+        (b : Bool) → sampled_of (if b then Some (first_where test xs) else None)
+        ≡ answer (or_else 0 6 b) (not_run (first_where test xs)) done
+    go true = refl
+    go false = refl
+
+-- below rows that have refusals' numbers, but not 6
+module _ {X : Type 0} (rows : List Row) (named : known rows ≡ true) (no_six : has 6 rows ≡ false) (test : X → Bool) (xs : List X) where
+  -- one of them refuses, at sample 0
+  pub early_row_refuses : {refusal : Refusal} → told (first rows) ≡ Err refusal → Err (at_once refusal) ≡ whole rows test xs
   early_row_refuses {refusal} e =
       let r = told_err e in
       let numbered : number refusal ≡ first rows = ap number (sym r.1) ∙ own (first rows) (known_first rows named r.0) in
@@ -48,20 +63,6 @@ module _ {X : Type 0} (rows : List Row) (named : known rows ≡ true) (no_six : 
         ne_eqb (first rows) 6 (foreign 6 rows (omega arith) no_six),
       )
 
-  -- or the samples decide
-  module _ (e : first rows ≡ 0) where
-    pub samples_number : first (rows ++ (6 when somewhere test xs ∷ [])) ≡ or_else 0 6 (somewhere test xs)
-    samples_number = one_more rows (known_numbered rows named) 6 _ ∙ rw e
-
-    pub samples_decide : sampled_of (position test xs) ≡ whole
-    unfolding refusal_of
-    samples_decide = rw (samples_number, position_is test xs) (go (somewhere test xs)) where
-      go :
-          (b : Bool) → sampled_of (if b then Some (first_where test xs) else None)
-          ≡ answer (or_else 0 6 b) (not_run (first_where test xs)) done
-      go true = refl
-      go false = refl
-
   -- 6 comes with the smallest sample, and any other number with 0
   abbrev SampleTold : RunResult → Type 0
   SampleTold r = (run_number r ≡ 6 → Smallest test xs (run_sample r)) × ((run_number r ≡ 6 → ⊥) → run_sample r ≡ 0)
@@ -70,7 +71,7 @@ module _ {X : Type 0} (rows : List Row) (named : known rows ≡ true) (no_six : 
   unfolding refusal_of
   six = refl
 
-  pub sample_told : SampleTold whole
+  pub sample_told : SampleTold (whole rows test xs)
   sample_told = rw (one_more rows (known_numbered rows named) 6 _) (go (first rows) (somewhere test xs) (foreign 6 rows (omega arith) no_six) (known_first rows named) refl) where
     go : (k : ℕ) (b : Bool) → (k ≡ 6 → ⊥) → ((k ≡ 0 → ⊥) → is_refusal k ≡ true) → somewhere test xs ≡ b → SampleTold (answer (or_else k 6 b) (not_run (first_where test xs)) done)
     go zero true n f q = rw six (λ e. smallest test xs q, λ h. absurd (h refl))
@@ -97,8 +98,8 @@ module _ (miscounted : Bool) (n word : ℕ) (long unequal : Bool) where
     refused_early = early_row_refuses early_rows refl refl (out n) xs
 
     pub sampled : early ≡ 0 → sampled_of (position (out n) xs) ≡ answered
-    unfolding run_answer first known refusal_of
-    sampled = samples_decide early_rows refl refl (out n) xs
+    unfolding run_answer first numbered refusal_of
+    sampled = samples_decide early_rows refl (out n) xs
 
     -- and as one: what is known at once, or the samples
     pub early_or_sampled : (found : Option ℕ) → (early ≡ 0 → found ≡ position (out n) xs) → answer early (λ r. Err (at_once r)) (sampled_of found) ≡ answered
